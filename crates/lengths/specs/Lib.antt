@@ -1,0 +1,3 @@
+-- The rules of lengths, a file each topic, and worked examples. Assumes nothing.
+pub mod Binary32
+pub mod Examples

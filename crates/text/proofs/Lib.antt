@@ -1,0 +1,22 @@
+-- the three questions: prefixes, runs, digits
+pub mod Laws
+-- a rule again and again
+pub mod Many
+-- a way through alternatives
+pub mod Chain
+-- how far a rule goes
+pub mod Takes
+-- a rule with more text before it
+pub mod Local
+-- a rule where the bytes ahead are known
+pub mod Ahead
+-- a text that was written line by line
+pub mod Lines
+-- these laws at work
+pub mod LinesExample
+-- what digits write
+pub mod Number
+-- what ends a line
+pub mod Line
+-- the characters of RFC 3629
+pub mod Chars

@@ -1,0 +1,70 @@
+-- The loop's invariant: the characters from here on end where those from the start do. Each turn passes one character, and the bytes that are
+-- left become fewer. Assumes nothing.
+use Prim.Native.Nat.{_-_}
+use mathlib.Core.Path.{_≡_, refl, sym, _∙_}
+use borrow.Author.Needs.{needs}
+use native.Mathlib.Omega.{arith}
+use lib.ListN.{length}
+use Rattle.text.specs.Utf8.{utf8End}
+use Rattle.text.proofs.Chars.{ascii, char-room, end-stop, end-step, end-out}
+use Rattle.text.proofs.utf8.utf8_end.Statement.{statement}
+use Rattle.text.proofs.utf8.utf8_end.Tie as tie
+
+abbrev Inv-loop : tie.InvT-loop
+Inv-loop text i₀ i = utf8End text 0 ≡ utf8End text i
+
+abbrev μ-loop : tie.MeasureT-loop
+μ-loop text i₀ i = length text - i
+
+loop-holds : tie.Need-loop-holds Inv-loop μ-loop
+loop-holds c = refl
+
+shared-slice-read-if1 : tie.Need-shared-slice-read-if1 Inv-loop μ-loop
+shared-slice-read-if1 c = search needs
+
+add-i : tie.Need-add-i Inv-loop μ-loop
+add-i c = omega arith
+
+loop-less : tie.Need-loop-less Inv-loop μ-loop
+loop-less c = omega arith
+
+loop-again : tie.Need-loop-again Inv-loop μ-loop
+loop-again c =
+    let t = c .before .before in
+    t .before .loop .inv ∙ end-step _ _ 1 (ascii _ _ (t .loop-test .taken) (c .if1 .taken)) (λ e. omega arith)
+
+utf8-char-requires : tie.Need-utf8-char-requires Inv-loop μ-loop
+utf8-char-requires c κs = search needs
+
+returns : tie.Need-returns Inv-loop μ-loop
+returns c = sym (c .before .before .before .before .before .loop .inv ∙ end-stop _ _ _ (c .before .utf8-char .ensures) (c .if2 .taken))
+
+add-i-2 : tie.Need-add-i-2 Inv-loop μ-loop
+add-i-2 c = omega (arith, char-room _ _ _ (c .before .utf8-char .ensures) (c .if2 .left))
+
+loop-less-2 : tie.Need-loop-less-2 Inv-loop μ-loop
+loop-less-2 c = omega (arith, char-room _ _ _ (c .before .utf8-char .ensures) (c .if2 .left))
+
+loop-again-2 : tie.Need-loop-again-2 Inv-loop μ-loop
+loop-again-2 c = c .before .before .before .before .before .loop .inv ∙ end-step _ _ _ (c .before .utf8-char .ensures) (c .if2 .left)
+
+returns-2 : tie.Need-returns-2 Inv-loop μ-loop
+returns-2 c = sym (c .before .loop .inv ∙ end-out _ _ (c .loop-test .left))
+
+pub utf8-end-spec : {M : Type 1} → statement M
+utf8-end-spec =
+    tie.close
+    (tie.spec
+    Inv-loop
+    μ-loop
+    loop-holds
+    shared-slice-read-if1
+    add-i
+    loop-less
+    loop-again
+    utf8-char-requires
+    returns
+    add-i-2
+    loop-less-2
+    loop-again-2
+    returns-2)

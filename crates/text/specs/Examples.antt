@@ -1,0 +1,138 @@
+-- Worked examples, by computation: for each rule a text that it takes and one that it refuses. Assumes nothing.
+use Prim.Native.Nat.{_^_, _-_}
+use mathlib.Core.Bool.{true, false}
+use mathlib.Core.Path.{_≡_, refl}
+use mathlib.Core.List.{[], _∷_}
+use mathlib.Core.Option.{none, some}
+use Rattle.text.specs.Why.{otherText, noDigits, tooLarge, missingByte, typeEmpty, nameEmpty, loneCr}
+use Rattle.text.specs.Nom.{fail, ok, span, bytes, isDigit, begins, tagged, afterTag, run, runEnd, decimal}
+use Rattle.text.specs.Many.{many0, manyTurns}
+use Rattle.text.specs.Utf8.{utf8End, utf8Char, row2, row3, row4, byteIn}
+use Rattle.text.specs.Util.{consumeLine, parsed, number, numberOrZero, byteRangeVal, range, spells}
+use Rattle.text.specs.BasicTags.{m3uTag, extTag, ext, commentTag, playlistType, event, other}
+
+-- ---- UTF-8
+euro : utf8End (0x61 ∷ 0xE2 ∷ 0x82 ∷ 0xAC ∷ 0x62 ∷ []) 0 ≡ 5
+unfolding utf8End many0 manyTurns utf8Char row2 row3 row4 byteIn
+euro = refl
+
+surrogate : utf8End (0x61 ∷ 0xED ∷ 0xA0 ∷ 0x80 ∷ []) 0 ≡ 1
+unfolding utf8End many0 manyTurns utf8Char row2 row3 row4 byteIn
+surrogate = refl
+
+overlong : utf8End (0xC0 ∷ 0x80 ∷ []) 0 ≡ 0
+unfolding utf8End many0 manyTurns utf8Char row2 row3 row4 byteIn
+overlong = refl
+
+above : utf8End (0xF4 ∷ 0x90 ∷ 0x80 ∷ 0x80 ∷ []) 0 ≡ 0
+unfolding utf8End many0 manyTurns utf8Char row2 row3 row4 byteIn
+above = refl
+
+cut-short : utf8End (0x61 ∷ 0x62 ∷ 0xF0 ∷ 0x9F ∷ []) 0 ≡ 2
+unfolding utf8End many0 manyTurns utf8Char row2 row3 row4 byteIn
+cut-short = refl
+
+-- ---- numbers
+target : number (bytes "#EXT-X-TARGETDURATION:10.5\n") 22 ≡ ok 10 24
+unfolding number parsed isDigit runEnd run decimal
+target = refl
+
+no-number : number (bytes "x") 0 ≡ fail noDigits
+unfolding number parsed isDigit runEnd run decimal
+no-number = refl
+
+largest : number (bytes "18446744073709551615") 0 ≡ ok (2 ^ 64 - 1) 20
+unfolding number parsed isDigit runEnd run decimal
+largest = refl
+
+too-large : number (bytes "18446744073709551616") 0 ≡ fail tooLarge
+unfolding number parsed isDigit runEnd run decimal
+too-large = refl
+
+version : numberOrZero (bytes "18446744073709551616") 0 ≡ ok 0 20
+unfolding numberOrZero parsed isDigit runEnd run decimal
+version = refl
+
+-- ---- byte ranges
+both : byteRangeVal (bytes "9@7x") 0 ≡ ok (range 9 (some 7)) 3
+unfolding byteRangeVal number parsed isDigit runEnd run decimal tagged begins
+both = refl
+
+alone : byteRangeVal (bytes "9@x") 0 ≡ ok (range 9 none) 1
+unfolding byteRangeVal number parsed isDigit runEnd run decimal tagged begins
+alone = refl
+
+no-range : byteRangeVal (bytes "@9") 0 ≡ fail noDigits
+unfolding byteRangeVal number parsed isDigit runEnd run decimal tagged begins
+no-range = refl
+
+-- ---- lines
+line : consumeLine (bytes "a\r\nb") 0 ≡ ok (span 0 1) 3
+unfolding consumeLine runEnd run tagged begins
+line = refl
+
+last-line : consumeLine (bytes "ab") 0 ≡ ok (span 0 2) 2
+unfolding consumeLine runEnd run tagged begins
+last-line = refl
+
+lone-cr : consumeLine (bytes "a\rb\n") 0 ≡ fail loneCr
+unfolding consumeLine runEnd run tagged begins
+lone-cr = refl
+
+cr-at-end : consumeLine (bytes "a\r") 0 ≡ fail loneCr
+unfolding consumeLine runEnd run tagged begins
+cr-at-end = refl
+
+-- ---- words
+is-word : spells (bytes "aURI=") (span 1 4) (bytes "URI") ≡ true
+unfolding spells tagged begins
+is-word = refl
+
+longer : spells (bytes "URIS=") (span 0 4) (bytes "URI") ≡ false
+unfolding spells tagged begins
+longer = refl
+
+-- ---- tags
+m3u : m3uTag (bytes "#EXTM3Uabc\n") 0 ≡ ok tt 7
+unfolding m3uTag tagged begins
+m3u = refl
+
+no-m3u : m3uTag (bytes "") 0 ≡ fail otherText
+unfolding m3uTag tagged begins
+no-m3u = refl
+
+foo : extTag (bytes "#EXT-X-FOO\n") 0 ≡ ok (ext (span 5 10) none) 11
+unfolding extTag runEnd run tagged afterTag begins
+foo = refl
+
+foo-rest : extTag (bytes "#EXT-X-FOO:a:b\n") 0 ≡ ok (ext (span 5 10) (some (span 11 14))) 15
+unfolding extTag runEnd run tagged afterTag begins
+foo-rest = refl
+
+foo-end : extTag (bytes "#EXT-X-FOO") 0 ≡ fail missingByte
+unfolding extTag runEnd run tagged afterTag begins
+foo-end = refl
+
+no-name : extTag (bytes "#EXT-:\n") 0 ≡ fail nameEmpty
+unfolding extTag runEnd run tagged afterTag begins
+no-name = refl
+
+comment : commentTag (bytes "#\n") 0 ≡ ok none 2
+unfolding commentTag runEnd run tagged begins
+comment = refl
+
+comment-end : commentTag (bytes "#a") 0 ≡ fail missingByte
+unfolding commentTag runEnd run tagged begins
+comment-end = refl
+
+event-type : playlistType (bytes "EVENT\r\n") 0 ≡ ok event 6
+unfolding playlistType runEnd run spells tagged begins
+event-type = refl
+
+other-type : playlistType (bytes "EVENT \n") 0 ≡ ok (other (span 0 6)) 7
+unfolding playlistType runEnd run spells tagged begins
+other-type = refl
+
+no-type : playlistType (bytes "\n") 0 ≡ fail typeEmpty
+unfolding playlistType runEnd run spells tagged begins
+no-type = refl

@@ -1,0 +1,209 @@
+// Prefixes, and runs of bytes that pass a test.
+use crate::Part;
+use crate::Span;
+ghost use mathlib.Core.Path.{_≡_};
+ghost use mathlib.Core.List.{[], _∷_};
+ghost use Rattle.text.specs.Nom.{bytes, isDigit, isOneOf, isNoneOf, tagged, afterTag, runEnd, spanOr};
+ghost use Rattle.text.specs.Util as util;
+ghost use Rattle.text.specs.Answers.{spanOf, partOf};
+
+pub fn is_digit(b: u8) -> bool
+    ensures { λ r. ⌜ r ≡ isDigit b ⌝ }
+{
+    b'0' <= b && b <= b'9'
+}
+
+// Whether `b` is one of `set`.
+pub fn is_one_of(set: &[u8], b: u8) -> bool
+    ensures { λ r. ⌜ r ≡ isOneOf (now (set .entry)) b ⌝ }
+{
+    let mut k = 0;
+    while k < set.len() {
+        if set[k] == b {
+            return true;
+        }
+        k += 1;
+    }
+    false
+}
+
+// Whether the text goes on with `tag` at `at`.
+pub fn starts_with(text: &[u8], at: usize, tag: &[u8]) -> bool
+    ensures { λ r. ⌜ r ≡ tagged (now (tag .entry)) (now (text .entry)) at ⌝ }
+{
+    let mut i = at;
+    let mut k = 0;
+    while k < tag.len() {
+        if text.len() <= i {
+            return false;
+        }
+        if text[i] != tag[k] {
+            return false;
+        }
+        i += 1;
+        k += 1;
+    }
+    true
+}
+
+// The place after `tag` where the text goes on with it, else the same place.
+pub fn after_tag(text: &[u8], at: usize, tag: &[u8]) -> usize
+    ensures { λ r. ⌜ r ≡ afterTag (now (tag .entry)) (now (text .entry)) at ⌝ }
+{
+    if starts_with(text, at, tag) {
+        at + tag.len()
+    } else {
+        at
+    }
+}
+
+// Whether the part is this word.
+pub fn spells(text: &[u8], part: Span, word: &[u8]) -> bool
+    ensures { λ r. ⌜ r ≡ util.spells (now (text .entry)) (spanOf part) (now (word .entry)) ⌝ }
+{
+    let start = part.start;
+    if starts_with(text, start, word) {
+        start + word.len() == part.end
+    } else {
+        false
+    }
+}
+
+// The part between two places; an empty one is absent.
+pub fn part(start: usize, end: usize) -> Part
+    ensures { λ r. ⌜ partOf r ≡ spanOr start end ⌝ }
+{
+    if start < end {
+        Part::Present(Span { start, end })
+    } else {
+        Part::Absent
+    }
+}
+
+// The end of the run of digits at `at`.
+pub fn digits_end(text: &[u8], at: usize) -> usize
+    ensures { λ r. ⌜ r ≡ runEnd isDigit (now (text .entry)) at ⌝ }
+{
+    let mut i = at;
+    while i < text.len() {
+        if is_digit(text[i]) {
+            i += 1;
+        } else {
+            return i;
+        }
+    }
+    i
+}
+
+// The first place from `at` on whose byte is one of `set`, or where the text ends.
+pub fn until_any(text: &[u8], at: usize, set: &[u8]) -> usize
+    ensures { λ r. ⌜ r ≡ runEnd (isNoneOf (now (set .entry))) (now (text .entry)) at ⌝ }
+{
+    let mut i = at;
+    while i < text.len() {
+        if is_one_of(set, text[i]) {
+            return i;
+        }
+        i += 1;
+    }
+    i
+}
+
+// The first place from `at` on whose byte is none of `set`, or where the text ends.
+pub fn while_any(text: &[u8], at: usize, set: &[u8]) -> usize
+    ensures { λ r. ⌜ r ≡ runEnd (isOneOf (now (set .entry))) (now (text .entry)) at ⌝ }
+{
+    let mut i = at;
+    while i < text.len() {
+        if is_one_of(set, text[i]) {
+            i += 1;
+        } else {
+            return i;
+        }
+    }
+    i
+}
+
+fn is_one_of_four(a: u8, b: u8, c: u8, d: u8, x: u8) -> bool
+    ensures { λ r. ⌜ r ≡ isOneOf (a ∷ b ∷ c ∷ d ∷ []) x ⌝ }
+{
+    if a == x {
+        return true;
+    }
+    if b == x {
+        return true;
+    }
+    if c == x {
+        return true;
+    }
+    d == x
+}
+
+// `until_any` for a set of four bytes, which are tested in place: the reading spends its time in such scans.
+fn until_four(text: &[u8], at: usize, a: u8, b: u8, c: u8, d: u8) -> usize
+    ensures { λ r. ⌜ r ≡ runEnd (isNoneOf (a ∷ b ∷ c ∷ d ∷ [])) (now (text .entry)) at ⌝ }
+{
+    let mut i = at;
+    while i < text.len() {
+        if is_one_of_four(a, b, c, d, text[i]) {
+            return i;
+        }
+        i += 1;
+    }
+    i
+}
+
+// A smaller set repeats a byte, which costs nothing once the bytes are constants.
+pub fn until_three(text: &[u8], at: usize, a: u8, b: u8, c: u8) -> usize
+    ensures { λ r. ⌜ r ≡ runEnd (isNoneOf (a ∷ b ∷ c ∷ [])) (now (text .entry)) at ⌝ }
+{
+    until_four(text, at, a, b, c, c)
+}
+
+pub fn until_two(text: &[u8], at: usize, a: u8, b: u8) -> usize
+    ensures { λ r. ⌜ r ≡ runEnd (isNoneOf (a ∷ b ∷ [])) (now (text .entry)) at ⌝ }
+{
+    until_four(text, at, a, b, b, b)
+}
+
+pub fn until_one(text: &[u8], at: usize, a: u8) -> usize
+    ensures { λ r. ⌜ r ≡ runEnd (isNoneOf (a ∷ [])) (now (text .entry)) at ⌝ }
+{
+    until_four(text, at, a, a, a, a)
+}
+
+// The end of the line at `at`: the first CR or LF from there on, or where the text ends.
+pub fn line_end(text: &[u8], at: usize) -> usize
+    ensures { λ r. ⌜ r ≡ runEnd (isNoneOf (bytes "\r\n")) (now (text .entry)) at ⌝ }
+{
+    until_two(text, at, b'\r', b'\n')
+}
+
+// `while_any` for a set of four bytes, tested in place.
+fn while_four(text: &[u8], at: usize, a: u8, b: u8, c: u8, d: u8) -> usize
+    ensures { λ r. ⌜ r ≡ runEnd (isOneOf (a ∷ b ∷ c ∷ d ∷ [])) (now (text .entry)) at ⌝ }
+{
+    let mut i = at;
+    while i < text.len() {
+        if is_one_of_four(a, b, c, d, text[i]) {
+            i += 1;
+        } else {
+            return i;
+        }
+    }
+    i
+}
+
+// Past blanks: spaces, tabs, CRs and LFs.
+pub fn multispace0(text: &[u8], at: usize) -> usize
+    ensures { λ r. ⌜ r ≡ runEnd (isOneOf (bytes " \t\r\n")) (now (text .entry)) at ⌝ }
+{
+    while_four(text, at, b' ', b'\t', b'\r', b'\n')
+}
+
+// Past spaces and tabs.
+pub fn space0(text: &[u8], at: usize) -> usize
+    ensures { λ r. ⌜ r ≡ runEnd (isOneOf (bytes " \t")) (now (text .entry)) at ⌝ }
+{
+    while_four(text, at, b' ', b'\t', b'\t', b'\t')
+}

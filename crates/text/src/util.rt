@@ -1,0 +1,122 @@
+// parser.rs, "Util": lines, numbers, byte ranges.
+use crate::Span;
+use crate::SpanRes;
+use crate::Why;
+use crate::scan;
+ghost use mathlib.Core.Path.{_≡_};
+ghost use mathlib.Core.Bool.{true};
+ghost use Prim.Native.Nat.{_-_, _≤_};
+ghost use lib.Dec.{ltb};
+ghost use Rattle.text.specs.Nom.{isDigit};
+ghost use Rattle.text.specs.Util as rule;
+ghost use Rattle.text.specs.Answers.{spanRes, parsedOf, pickParsed, byteRangeRes};
+
+// A line up to CR LF, LF or the text's end, and the place after its end. A CR that no LF follows fails.
+pub fn consume_line(text: &[u8], at: usize) -> SpanRes
+    ensures { λ r. ⌜ spanRes r ≡ rule.consumeLine (now (text .entry)) at ⌝ }
+{
+    let end = scan::line_end(text, at);
+    let line = Span { start: at, end };
+    if scan::starts_with(text, end, b"\r") {
+        if scan::starts_with(text, end, b"\r\n") {
+            return SpanRes::Ok(line, end + 2);
+        }
+        return SpanRes::Fail(Why::LoneCr);
+    }
+    SpanRes::Ok(line, scan::after_tag(text, end, b"\n"))
+}
+
+// What the digits at a place write, with the place after them.
+pub enum Parsed {
+    NoDigits,
+    TooLarge(usize),
+    Value(u64, usize),
+}
+
+const LARGEST: u64 = 18_446_744_073_709_551_615;
+
+fn digit_value(b: u8) -> u64
+    requires { ⌜ isDigit b ≡ true ⌝ }
+    ensures { λ r. ⌜ (r ≡ b - 48) × (r ≤ 9) ⌝ }
+{
+    (b - b'0') as u64
+}
+
+fn parsed_to(v: u64, at: usize, end: usize) -> Parsed
+    ensures { λ r. ⌜ r ≡ pickParsed (ltb at end) v end ⌝ }
+{
+    if at < end {
+        Parsed::Value(v, end)
+    } else {
+        Parsed::NoDigits
+    }
+}
+
+// Digits of any number: only a value that passes 2^64 - 1 is too large, however many zeros stand in front.
+pub fn number(text: &[u8], at: usize) -> Parsed
+    ensures { λ r. ⌜ parsedOf r ≡ rule.parsed (now (text .entry)) at ⌝ }
+{
+    let mut i = at;
+    let mut v: u64 = 0;
+    while i < text.len() {
+        let b = text[i];
+        if scan::is_digit(b) {
+            let d = digit_value(b);
+            if (LARGEST - d) / 10 < v {
+                return Parsed::TooLarge(scan::digits_end(text, i));
+            }
+            v = v * 10 + d;
+            i += 1;
+        } else {
+            return parsed_to(v, at, i);
+        }
+    }
+    parsed_to(v, at, i)
+}
+
+// struct ByteRange { length: u64, offset: Option<u64> }
+pub enum Offset {
+    Absent,
+    At(u64),
+}
+
+pub struct ByteRange {
+    pub length: u64,
+    pub offset: Offset,
+}
+
+pub enum ByteRangeRes {
+    Fail(Why),
+    Ok(ByteRange, usize),
+}
+
+// A length, perhaps with an offset. Where what follows `@` is no number, the length stands alone.
+pub fn byte_range_val(text: &[u8], at: usize) -> ByteRangeRes
+    ensures { λ r. ⌜ byteRangeRes r ≡ rule.byteRangeVal (now (text .entry)) at ⌝ }
+{
+    match number(text, at) {
+        Parsed::Value(length, end) => {
+            let alone = ByteRange {
+                length,
+                offset: Offset::Absent,
+            };
+            if scan::starts_with(text, end, b"@") {
+                match number(text, end + 1) {
+                    Parsed::Value(o, after) => ByteRangeRes::Ok(
+                        ByteRange {
+                            length,
+                            offset: Offset::At(o),
+                        },
+                        after,
+                    ),
+                    Parsed::TooLarge(_) => ByteRangeRes::Ok(alone, end),
+                    Parsed::NoDigits => ByteRangeRes::Ok(alone, end),
+                }
+            } else {
+                ByteRangeRes::Ok(alone, end)
+            }
+        }
+        Parsed::TooLarge(_) => ByteRangeRes::Fail(Why::TooLarge),
+        Parsed::NoDigits => ByteRangeRes::Fail(Why::NoDigits),
+    }
+}
