@@ -1,11 +1,10 @@
 // The binary32 nearest to a length, by whole numbers alone.
 
+use crate::NS_IN_SECOND;
 ghost use mathlib.Core.Path.{_≡_};
 ghost use Prim.Native.Nat.{_*_, _^_, _<_};
 ghost use lib.Ieee.Nearest.{closest};
 ghost use Rattle.lengths.specs.Binary32.{secondsBits};
-
-const NS_IN_SECOND: u64 = 1_000_000_000;
 
 // A binary32 keeps 24 binary digits: the highest one bit, which its bits leave out, and 23 below it.
 const DIGITS_BELOW: u32 = 23;

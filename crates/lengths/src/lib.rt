@@ -1,5 +1,8 @@
-// Lengths in whole nanoseconds, exact, and what a playlist and a clock make of them.
+// Lengths in whole nanoseconds, exact, and what a playlist makes of them.
 // A length is a u64 of ns; nothing here rounds twice or goes through a second float type.
-// `binary32`: the bits of the binary32 that is nearest to a length's seconds.
+// Each function takes any text and any place, or any u64. Its contract is one equation with a rule of `specs/`.
 
-pub mod binary32; // binary32.rt
+pub mod duration; // EXTINF: digits to ns, and the title
+pub mod binary32; // the binary32 nearest to a length's seconds
+
+const NS_IN_SECOND: u64 = 1_000_000_000;

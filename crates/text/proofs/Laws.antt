@@ -2,14 +2,14 @@
 use mathlib.Core.Path.{_≡_, refl, sym, _∙_, ap}
 use mathlib.Core.Bool.{Bool, true, false, cond, _&&_, _||_, false≢true}
 use mathlib.Core.List.{List, [], _∷_, _++_}
-use Prim.Native.Nat.{ℕ, suc, _+_, _*_, _-_, _≤_, _<_, zero-le, suc-le-suc}
-use native.Mathlib.Nat.{add-zero, add-suc, suc-add, le-refl}
+use Prim.Native.Nat.{ℕ, suc, _+_, _*_, _-_, _^_, _≤_, _<_, zero-le, suc-le-suc}
+use native.Mathlib.Nat.{add-zero, add-suc, suc-add, le-refl, mul-assoc, pow-succ'}
 use native.Mathlib.Numerals.{add-one}
 use native.Mathlib.Omega.{arith}
 use lib.Dec.{eqb, leb}
 use borrow.Author.Tests.{eq-eqb, ne-eqb, eqb-true, leb-true}
 use lib.ListN.{length, drop, getD, drop-of-length-le, length-drop}
-use lib.Seq.{drop-cons}
+use lib.Seq.{drop-cons, getD-drop}
 use Rattle.text.specs.Nom.{isOneOf, begins, tagged, run, runEnd, decimal, isDigit}
 
 or-again : (b c : Bool) → (b || (b || c)) ≡ (b || c)
@@ -139,6 +139,24 @@ pub digit-bounds : (b : ℕ) → isDigit b ≡ true → (48 ≤ b) × (b ≤ 57)
 unfolding isDigit
 digit-bounds b e = (leb-true _ _ (and-left (leb 48 b) (leb b 57) e), leb-true _ _ (and-right (leb 48 b) (leb b 57) e))
 
+-- n digits write a number below 10 ^ n; behind digits that write one below b, below b times that
+decimal-lt : (s : List ℕ) (acc b : ℕ) → acc < b → decimal acc s < b * 10 ^ run isDigit s
+unfolding decimal run
+decimal-lt [] acc b h = omega arith
+decimal-lt (x ∷ s) acc b h = go (isDigit x) refl (decimal-lt s (acc * 10 + (x - 48)) (b * 10))
+  where
+    go : (c : Bool) → isDigit x ≡ c → (acc * 10 + (x - 48) < b * 10 → decimal (acc * 10 + (x - 48)) s < b * 10 * 10 ^ run isDigit s)
+        → cond c (decimal (acc * 10 + (x - 48)) s) acc < b * 10 ^ cond c (suc (run isDigit s)) 0
+    go true q ih = rw (pow-succ' 10 (run isDigit s), ← mul-assoc b 10 (10 ^ run isDigit s)) (ih (omega (arith, digit-bounds x q .1)))
+    go false q ih = omega arith
+
+pub decimal-below : (text : List ℕ) (at : ℕ) → decimal 0 (drop at text) < 10 ^ (runEnd isDigit text at - at)
+unfolding runEnd
+decimal-below text at =
+    let n = run isDigit (drop at text) in
+    let z : at + n - at ≡ n = omega arith in
+    rw z (omega (arith, decimal-lt (drop at text) 0 1 (omega arith)))
+
 begins-long : (t s : List ℕ) → begins t s ≡ true → length t ≤ length s
 unfolding begins
 begins-long [] s e = zero-le
@@ -164,6 +182,16 @@ begins-first x y t u (b ∷ s) h e = rw (ne-eqb b y (λ q. h (sym (eqb-true b x 
 pub tagged-first : (x y : ℕ) (t u text : List ℕ) (at : ℕ) → (x ≡ y → ⊥) → tagged (x ∷ t) text at ≡ true → tagged (y ∷ u) text at ≡ false
 unfolding tagged
 tagged-first x y t u text at h e = begins-first x y t u (drop at text) h e
+
+-- where another byte stands, or none, it does not go on with a tag that begins so
+begins-not : (x : ℕ) (t s : List ℕ) → (getD s 0 0 ≡ x → ⊥) → begins (x ∷ t) s ≡ false
+unfolding begins
+begins-not x t [] h = refl
+begins-not x t (b ∷ s) h = rw (ne-eqb b x h)
+
+pub tagged-not : (x : ℕ) (t text : List ℕ) (at : ℕ) → (getD text at 0 ≡ x → ⊥) → tagged (x ∷ t) text at ≡ false
+unfolding tagged
+tagged-not x t text at h = begins-not x t (drop at text) (rw (getD-drop at text 0 0, add-zero at) h)
 
 -- where it does not go on with a tag, it does not go on with a longer one
 begins-longer : (t u s : List ℕ) → begins t s ≡ false → begins (t ++ u) s ≡ false

@@ -20,3 +20,5 @@ pub mod Number
 pub mod Line
 -- the characters of RFC 3629
 pub mod Chars
+-- no second answer fits a contract
+pub mod Only

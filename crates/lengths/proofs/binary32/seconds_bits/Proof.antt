@@ -4,13 +4,13 @@ use mathlib.Core.Path.{refl, sym, ap, _∙_}
 use native.Mathlib.Omega.{arith}
 use borrow.Author.Needs.{needs}
 use Rattle.lengths.specs.Binary32.{secondsBits}
-use Rattle.lengths.specs.Examples.{none}
+use Rattle.lengths.specs.Examples.{zero-bits}
 use Rattle.lengths.proofs.Scaled.{Scaled, scaled, unit-fits, digits-le, bits-are}
 use Rattle.lengths.proofs.binary32.seconds_bits.Statement.{statement}
 use Rattle.lengths.proofs.binary32.seconds_bits.Tie as tie
 
 returns : tie.Need-returns
-returns c = sym (ap secondsBits (c .if1 .taken) ∙ none)
+returns c = sym (ap secondsBits (c .if1 .taken) ∙ zero-bits)
 
 shifted-requires : tie.Need-shifted-requires
 shifted-requires c κs = let S = scaled (c .before .args .ns) _ (omega arith) (c .before .fits .ns .fits) refl in (S .up-lt, S .fits)

@@ -1,0 +1,18 @@
+-- how far each rule goes
+pub mod Takes
+-- a pair whose name is there
+pub mod Name
+-- names with commas between them
+pub mod Words
+-- a list, pair after pair
+pub mod Walk
+-- where a list's values come from
+pub mod Source
+-- a byte range in quotes, on its own
+pub mod Alone
+-- what was written is read back
+pub mod Ahead
+-- each rule with more text before it
+pub mod Local
+-- no second answer fits a contract
+pub mod Only

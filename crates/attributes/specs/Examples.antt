@@ -1,0 +1,119 @@
+-- Worked examples, by computation: for each rule a text that it takes and one that it refuses. Assumes nothing.
+use mathlib.Core.Path.{_≡_, refl}
+use mathlib.Core.Bool.{true, false}
+use mathlib.Core.List.{List, [], _∷_}
+use mathlib.Core.Option.{none, some}
+use Rattle.text.specs.Why.{otherText, missingByte, noUri, uriNotQuoted, rangeNotQuoted, rangeBad}
+use Rattle.text.specs.Nom.{fail, ok, span, bytes, isDigit, begins, tagged, afterTag, run, runEnd, decimal}
+use Rattle.text.specs.Many.{many0, manyTurns}
+use Rattle.text.specs.Util.{spells, parsed, number, byteRangeVal, range}
+use Rattle.attributes.specs.Pairs.{bare, inQuotes, pair, quoted, unquoted, keyValuePair, nextPair, keyValuePairs, inserted, get, words, named, besides}
+use Rattle.attributes.specs.ExtMap.{extMap, extmap}
+
+-- ---- values
+in-quotes : quoted (bytes "\"a\nb\"x") 0 ≡ ok (inQuotes (span 1 4)) 5
+unfolding quoted runEnd run tagged begins
+in-quotes = refl
+
+-- at least one byte
+empty-quotes : quoted (bytes "\"\"") 0 ≡ fail missingByte
+unfolding quoted runEnd run tagged begins
+empty-quotes = refl
+
+open-quotes : quoted (bytes "\"a") 0 ≡ fail otherText
+unfolding quoted runEnd run tagged begins
+open-quotes = refl
+
+plain : unquoted (bytes "a b,c") 0 ≡ ok (bare (span 0 3)) 3
+unfolding unquoted runEnd run
+plain = refl
+
+no-value : unquoted (bytes ",") 0 ≡ fail missingByte
+unfolding unquoted runEnd run
+no-value = refl
+
+-- ---- pairs
+uri-pair : keyValuePair (bytes "URI=\"m\",z\n") 0 ≡ ok (pair (span 0 3) (inQuotes (span 5 6))) 8
+unfolding keyValuePair quoted unquoted runEnd run tagged afterTag begins
+uri-pair = refl
+
+-- two quote marks with nothing between are a value without quotes
+quotes-pair : keyValuePair (bytes "URI=\"\"\nx\n") 0 ≡ ok (pair (span 0 3) (bare (span 4 6))) 6
+unfolding keyValuePair quoted unquoted runEnd run tagged afterTag begins
+quotes-pair = refl
+
+-- a name may be empty, and runs across lines
+empty-name : keyValuePair (bytes "=1") 0 ≡ ok (pair (span 0 0) (bare (span 1 2))) 2
+unfolding keyValuePair quoted unquoted runEnd run tagged afterTag begins
+empty-name = refl
+
+long-name : keyValuePair (bytes "z\ny?k=1\n") 0 ≡ ok (pair (span 0 5) (bare (span 6 7))) 7
+unfolding keyValuePair quoted unquoted runEnd run tagged afterTag begins
+long-name = refl
+
+no-pair : keyValuePair (bytes "\na=1") 0 ≡ fail missingByte
+unfolding keyValuePair quoted unquoted runEnd run tagged afterTag begins
+no-pair = refl
+
+-- ---- lists
+-- commas between pairs are optional, blanks before a pair are not its name
+list : keyValuePairs (bytes "a=\"1\" b=2,\nc=3") 0 ≡ ok (pair (span 0 1) (inQuotes (span 3 4)) ∷ pair (span 6 7) (bare (span 8 9)) ∷ []) 10
+unfolding keyValuePairs many0 manyTurns nextPair keyValuePair quoted unquoted runEnd run tagged afterTag begins
+list = refl
+
+-- it ends where the first thing begins that isn't a pair, blanks left out
+list-ends : keyValuePairs (bytes "URI=\"m\", \nx?a=1\n") 0 ≡ ok (pair (span 0 3) (inQuotes (span 5 6)) ∷ []) 8
+unfolding keyValuePairs many0 manyTurns nextPair keyValuePair quoted unquoted runEnd run tagged afterTag begins
+list-ends = refl
+
+no-list : keyValuePairs (bytes "abc\n") 0 ≡ ok [] 0
+unfolding keyValuePairs many0 manyTurns nextPair keyValuePair quoted unquoted runEnd run tagged afterTag begins
+no-list = refl
+
+-- of equal names the last holds
+last-holds : get (bytes "a=1,a=2,b=3") (bytes "a") (pair (span 0 1) (bare (span 2 3)) ∷ pair (span 4 5) (bare (span 6 7)) ∷ pair (span 8 9) (bare (span 10 11)) ∷ []) ≡ some (bare (span 6 7))
+unfolding inserted spells tagged begins
+last-holds = refl
+
+two-words : words (bytes "URI,BYTERANGE") ≡ bytes "URI" ∷ bytes "BYTERANGE" ∷ []
+unfolding words
+two-words = refl
+
+only-these : besides (bytes "a=1,b=2") (words (bytes "a,b")) (pair (span 0 1) (bare (span 2 3)) ∷ pair (span 4 5) (bare (span 6 7)) ∷ []) ≡ false
+unfolding besides named words spells tagged begins
+only-these = refl
+
+one-more : besides (bytes "a=1,b=2") (words (bytes "a,c")) (pair (span 0 1) (bare (span 2 3)) ∷ pair (span 4 5) (bare (span 6 7)) ∷ []) ≡ true
+unfolding besides named words spells tagged begins
+one-more = refl
+
+-- ---- maps
+map-uri : extmap (bytes "URI=\"m\"abc\nx\n") 0 ≡ ok (extMap (span 5 6) none (span 0 7)) 7
+unfolding extmap keyValuePairs many0 manyTurns nextPair keyValuePair quoted unquoted inserted spells runEnd run tagged afterTag begins
+map-uri = refl
+
+map-range : extmap (bytes "BYTERANGE=\"9@x\",URI=\"m\"\n") 0 ≡ ok (extMap (span 21 22) (some (range 9 none)) (span 0 23)) 23
+unfolding extmap byteRangeVal number parsed isDigit decimal keyValuePairs many0 manyTurns nextPair keyValuePair quoted unquoted inserted spells runEnd run tagged afterTag begins
+map-range = refl
+
+-- 01: M`#EXT-X-MAP:URI=""\nx\n` leaves an unknown tag
+map-empty : extmap (bytes "URI=\"\"\nx\n") 0 ≡ fail uriNotQuoted
+unfolding extmap keyValuePairs many0 manyTurns nextPair keyValuePair quoted unquoted inserted spells runEnd run tagged afterTag begins
+map-empty = refl
+
+map-none : extmap (bytes "a=1\n") 0 ≡ fail noUri
+unfolding extmap keyValuePairs many0 manyTurns nextPair keyValuePair quoted unquoted inserted spells runEnd run tagged afterTag begins
+map-none = refl
+
+map-bare-range : extmap (bytes "URI=\"m\",BYTERANGE=9\n") 0 ≡ fail rangeNotQuoted
+unfolding extmap keyValuePairs many0 manyTurns nextPair keyValuePair quoted unquoted inserted spells runEnd run tagged afterTag begins
+map-bare-range = refl
+
+map-bad-range : extmap (bytes "URI=\"m\",BYTERANGE=\"@9\"\n") 0 ≡ fail rangeBad
+unfolding extmap byteRangeVal number parsed isDigit decimal keyValuePairs many0 manyTurns nextPair keyValuePair quoted unquoted inserted spells runEnd run tagged afterTag begins
+map-bad-range = refl
+
+-- 01: M`#EXT-X-MAP:URI="m",z\ny?k=1\n` has no clip: the list takes the next line too
+map-swallows : extmap (bytes "URI=\"m\",z\ny?k=1\n") 0 ≡ ok (extMap (span 5 6) none (span 0 15)) 15
+unfolding extmap keyValuePairs many0 manyTurns nextPair keyValuePair quoted unquoted inserted spells runEnd run tagged afterTag begins
+map-swallows = refl

@@ -1,0 +1,7 @@
+-- parser.rs: key_value_pairs and what it is made of
+pub mod Pairs
+-- parser.rs: extmap
+pub mod ExtMap
+-- what the code's answers say in these words
+pub mod Answers
+pub mod Examples
