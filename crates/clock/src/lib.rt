@@ -1,0 +1,123 @@
+// The exact clock over a lent table of clip records: totals, starts and ticks in whole numbers, cut to a tick once, at the end.
+// Each call answers for every table and every number: the count is compared without overflow, and the sum stops at its limit.
+
+pub mod turns; // starts and lengths in ticks of a turn
+pub mod starts; // all starts of a turn in one pass
+
+use tables::Refusal;
+use tables::layout;
+use tables::record;
+ghost use mathlib.Core.Path.{_≡_};
+ghost use Prim.Native.Nat.{ℕ, _+_, _*_, _≤_, min};
+ghost use Rattle.tables.specs.Refusal.{given};
+ghost use Rattle.clock.specs.Clock as clock;
+ghost use Rattle.clock.specs.Calls as rule;
+ghost use Rattle.clock.specs.Answers.{answerOf};
+
+pub const LARGEST_TOTAL: u64 = 1_000_000_000_000_000;
+
+pub const LARGEST_RATE: u64 = 90_000;
+
+pub const LAST_TURN: u64 = 999_999;
+
+const SECOND: u64 = 1_000_000_000;
+
+// A call's answer: 01's refusal, at place 0, or a number of ns or of ticks.
+pub enum Answer {
+    Refused(Refusal),
+    Given(u64),
+}
+
+// Rule 9 of the clock: the count fits, and each length is below its limit.
+fn keeps_rule(words: &[u64], clips: usize) -> bool
+    ensures { λ r. ⌜ r ≡ clock.keepsRule (now (words .entry)) clips ⌝ }
+{
+    if !record::clips_fit(words, clips) {
+        return false;
+    }
+    let mut k = 0usize;
+    while k < clips {
+        let length = record::clip_word(words, k, layout::LENGTH);
+        if layout::LENGTH_LIMIT <= length {
+            return false;
+        }
+        k += 1;
+    }
+    true
+}
+
+// The sum of the first lengths. It stops as soon as it is above the largest total, so that no table makes it overflow.
+fn sum_upto(words: &[u64], clips: usize) -> u64
+    ensures { λ r. ⌜ r ≡ min (clock.sumLengths (now (words .entry)) clips) (clock.largestTotal + 1) ⌝ }
+{
+    let mut sum = 0u64;
+    let mut k = 0usize;
+    while k < clips {
+        let length = record::clip_word(words, k, layout::LENGTH);
+        if LARGEST_TOTAL - sum < length {
+            return LARGEST_TOTAL + 1;
+        }
+        sum += length;
+        k += 1;
+    }
+    sum
+}
+
+// The tick of the moment turn x whole + before, which may be above 2^64 ns: its seconds and the ns left over are multiplied apart.
+fn tick_of(turn: u64, whole: u64, before: u64, rate: u64) -> u64
+    requires { ⌜ (turn ≤ clock.lastTurn) × (whole ≤ clock.largestTotal) × (before ≤ whole) × (rate ≤ clock.largestRate) ⌝ }
+    ensures { λ r. ⌜ r ≡ clock.tickOf (turn * whole + before) rate ⌝ }
+{
+    let rest = turn * (whole % SECOND) + before;
+    let seconds = turn * (whole / SECOND) + rest / SECOND;
+    let nanos = rest % SECOND;
+    seconds * rate + nanos * rate / SECOND
+}
+
+// All lengths together, in ns. The calls below weigh its refusals first: 9, 11.
+pub fn total(words: &[u64], clips: usize) -> Answer
+    ensures { λ r. ⌜ answerOf r ≡ rule.total (now (words .entry)) clips ⌝ }
+{
+    if !keeps_rule(words, clips) {
+        return Answer::Refused(Refusal::BrokenTable);
+    }
+    let sum = sum_upto(words, clips);
+    if LARGEST_TOTAL < sum {
+        return Answer::Refused(Refusal::TotalTooLong);
+    }
+    Answer::Given(sum)
+}
+
+// The total, where rate and turn are in their limits too: 9, 11, 12, 13.
+fn in_turn(words: &[u64], clips: usize, rate: u64, turn: u64) -> Answer
+    ensures { λ r. ⌜ answerOf r ≡ rule.inTurn (now (words .entry)) clips rate turn (given (clock.sumLengths (now (words .entry)) clips)) ⌝ }
+{
+    let all = total(words, clips);
+    let Answer::Given(_) = all else {
+        return all;
+    };
+    if rate < 1 {
+        return Answer::Refused(Refusal::BadRate);
+    }
+    if LARGEST_RATE < rate {
+        return Answer::Refused(Refusal::BadRate);
+    }
+    if LAST_TURN < turn {
+        return Answer::Refused(Refusal::TurnTooLate);
+    }
+    all
+}
+
+// The start of a clip within its turn, in ns: all earlier lengths.
+pub fn start_ns(words: &[u64], clips: usize, clip: usize) -> Answer
+    ensures { λ r. ⌜ answerOf r ≡ rule.startNs (now (words .entry)) clips clip ⌝ }
+{
+    let all = total(words, clips);
+    let Answer::Given(_) = all else {
+        return all;
+    };
+    if clips <= clip {
+        return Answer::Refused(Refusal::NoSuchClip);
+    }
+    Answer::Given(sum_upto(words, clip))
+}

@@ -1,0 +1,73 @@
+-- 01's table "Numbers given back": each refusal by name, with the words of its row, and a public call's answer.
+-- Assumes nothing.
+use Prim.Native.Nat.{ℕ}
+use mathlib.Core.Bool.{Bool, true, false}
+
+pub data Refusal : Type 0 where
+  -- text above 65,536 bytes
+  textTooLong : Refusal
+  -- text is not UTF-8
+  notUtf8 : Refusal
+  -- text doesn't begin `#EXTM3U`
+  noHeader : Refusal
+  -- verdict is master
+  isMaster : Refusal
+  -- the reading meets a left-out tag
+  leftOutTag : Refusal
+  -- an EXTINF that reads has over 9 digits before or after the point
+  tooManyDigits : Refusal
+  -- a record's words x clips exceeds the clip table's words
+  clipTableShort : Refusal
+  -- a record's words x kept unknown tags exceeds the tag table's words
+  tagTableShort : Refusal
+  -- a table breaks its rule
+  brokenTable : Refusal
+  -- output shorter than the text to write
+  outputShort : Refusal
+  -- total above 10^15 ns
+  totalTooLong : Refusal
+  -- rate not 1 to 90,000
+  badRate : Refusal
+  -- turn above 999,999
+  turnTooLate : Refusal
+  -- no such clip
+  noSuchClip : Refusal
+  -- window's end above 2^64 - 1
+  windowTooFar : Refusal
+
+-- the number of its row
+abbrev pub numberOf : Refusal → ℕ
+numberOf textTooLong = 1
+numberOf notUtf8 = 2
+numberOf noHeader = 3
+numberOf isMaster = 4
+numberOf leftOutTag = 5
+numberOf tooManyDigits = 6
+numberOf clipTableShort = 7
+numberOf tagTableShort = 8
+numberOf brokenTable = 9
+numberOf outputShort = 10
+numberOf totalTooLong = 11
+numberOf badRate = 12
+numberOf turnTooLate = 13
+numberOf noSuchClip = 14
+numberOf windowTooFar = 15
+
+-- what a public call gives back: a refusal with its place, or values
+pub data Answer (A : Type 0) : Type 0 where
+  refused : Refusal → ℕ → Answer A
+  given : A → Answer A
+
+-- its number and its place: accepted answers have number 0 and place 0
+abbrev pub number : {A : Type 0} → Answer A → ℕ
+number (refused r p) = numberOf r
+number (given a) = 0
+
+abbrev pub place : {A : Type 0} → Answer A → ℕ
+place (refused r p) = p
+place (given a) = 0
+
+-- the answer where the test passes; else the refusal, at its place. A chain of these is weighed from the top down.
+abbrev pub orRefuse : {A : Type 0} → Bool → Refusal → ℕ → Answer A → Answer A
+orRefuse true r p answer = answer
+orRefuse false r p answer = refused r p

@@ -1,0 +1,37 @@
+-- A lent table of 64-bit words, so many to a record: when a count of records fits, what stands at a place of a record, and "every entry passes".
+-- Assumes nothing.
+use mathlib.Core.Bool.{Bool, true, _&&_}
+use mathlib.Core.List.{List}
+use Prim.Native.Nat.{ℕ, zero, suc, _+_, _*_, _/_, _%_}
+use lib.ListN.{length, getD}
+use lib.Dec.{leb, eqb}
+use Rattle.tables.specs.Layout as layout
+
+-- each index below n passes
+unfoldable pub every : (ℕ → Bool) → ℕ → Bool
+every p zero = true
+every p (suc n) = every p n && p n
+
+-- the count fits: n records of w words each are no more words than the table has
+unfoldable pub fits : ℕ → List ℕ → ℕ → Bool
+fits w t n = leb (n * w) (length t)
+
+abbrev pub clipsFit : List ℕ → ℕ → Bool
+clipsFit t n = fits layout.clipWords t n
+
+abbrev pub tagsFit : List ℕ → ℕ → Bool
+tagsFit t n = fits layout.tagWords t n
+
+-- the word at a place of record k; 0 where the table has none
+abbrev pub wordAt : ℕ → List ℕ → ℕ → ℕ → ℕ
+wordAt w t k i = getD t (k * w + i) 0
+
+abbrev pub clipWord : List ℕ → ℕ → ℕ → ℕ
+clipWord t k i = wordAt layout.clipWords t k i
+
+abbrev pub tagWord : List ℕ → ℕ → ℕ → ℕ
+tagWord t k i = wordAt layout.tagWords t k i
+
+-- a word of flags holds this one: divided by it, the word is odd
+unfoldable pub hasFlag : ℕ → ℕ → Bool
+hasFlag flags flag = eqb (flags / flag % 2) 1

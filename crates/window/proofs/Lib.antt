@@ -1,0 +1,2 @@
+-- the ways out; no second result fits
+pub mod Laws

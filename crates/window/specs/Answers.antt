@@ -1,0 +1,11 @@
+-- What each answer of the code says, in the words of the rules. Assumes nothing.
+use Rattle.tables.specs.Refusal.{Answer, refused, given}
+use Rattle.tables.specs.Answers.{refusalOf}
+use Rattle.window.specs.declared.Answer as answerᵈ
+use Rattle.window.specs.declared.Answer.the-variants as answerᵛ
+use Rattle.window.specs.Window.{Window, none, range}
+
+abbrev pub answerOf : answerᵈ.Answer → Answer Window
+answerOf (answerᵛ.Refused r) = refused (refusalOf r) 0
+answerOf answerᵛ.None = given none
+answerOf (answerᵛ.Range start end) = given (range start end)
