@@ -122,10 +122,10 @@ map-range-res-only n = only-by (λ r. rangeRes r n) mapRangeResBack go
     go (rangeResᵛ.Fail why) = ap rangeResᵛ.Fail (why-back why)
     go (rangeResᵛ.Ok r) = ap rangeResᵛ.Ok (map-range-back r)
 
-abbrev mapBack : Map → mapᵈ.Map
+abbrev pub mapBack : Map → mapᵈ.Map
 mapBack (extMap uri range list) = record { uri = spanBack uri; «byte_range» = mapRangeBack range; list = spanBack list }
 
-map-back : (m : mapᵈ.Map) → mapBack (mapOf m) ≡ m
+pub map-back : (m : mapᵈ.Map) → mapBack (mapOf m) ≡ m
 map-back m = ap (λ (r : OptRange). record { uri = m .uri; «byte_range» = r; list = m .list }) (map-range-back (m .«byte_range»))
 
 pub map-only : Only mapOf

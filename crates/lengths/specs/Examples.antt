@@ -1,5 +1,6 @@
 -- Worked examples, by computation: for each rule a text that it takes and one that it refuses. Assumes nothing.
 use mathlib.Core.Path.{_≡_, refl}
+use mathlib.Core.List.{[], _∷_}
 use mathlib.Core.Option.{none, some}
 use Rattle.text.specs.Why.{noDigits, missingByte}
 use Rattle.text.specs.Nom.{fail, ok, span, bytes, isDigit, begins, tagged, afterTag, run, runEnd, decimal}
@@ -66,27 +67,14 @@ no-byte : durationTitleTag (bytes "0000000000") 0 ≡ fail missingByte
 unfolding durationTitleTag float counted isDigit runEnd run decimal tagged afterTag begins
 no-byte = refl
 
--- ---- "bits: 0.1 s 3DCCCCCD, 9 s 41100000, 16777217 s as 16777216, 999999999.999999999 s 4E6E6B28", "0 s is all zero bits"
-tenth : secondsBits 100000000 ≡ 0x3DCCCCCD
+-- ---- * "bits: 0.1 s 3DCCCCCD, 9 s 41100000, 16777217 s as 16777216, 999999999.999999999 s 4E6E6B28", in one statement
+bits :
+    secondsBits 100000000 ∷ secondsBits 9000000000 ∷ secondsBits 16777217000000000 ∷ secondsBits 16777216000000000 ∷ secondsBits 999999999999999999 ∷ []
+    ≡ 0x3DCCCCCD ∷ 0x41100000 ∷ 0x4B800000 ∷ 0x4B800000 ∷ 0x4E6E6B28 ∷ []
 unfolding secondsBits
-tenth = refl
+bits = refl
 
-nine : secondsBits 9000000000 ≡ 0x41100000
-unfolding secondsBits
-nine = refl
-
-tie : secondsBits 16777217000000000 ≡ 0x4B800000
-unfolding secondsBits
-tie = refl
-
-tie-is-even : secondsBits 16777216000000000 ≡ 0x4B800000
-unfolding secondsBits
-tie-is-even = refl
-
-longest : secondsBits 999999999999999999 ≡ 0x4E6E6B28
-unfolding secondsBits
-longest = refl
-
+-- "0 s is all zero bits"
 pub zero-bits : secondsBits 0 ≡ 0
 unfolding secondsBits
 zero-bits = refl

@@ -199,10 +199,10 @@ byte-range-res-only = only-by byteRangeRes byteRangeResBack go
     go (rangeResᵛ.Ok r n) = ap (λ (q : rangeᵈ.ByteRange). rangeResᵛ.Ok q n) (byte-range-back r)
 
 -- ---- tags
-abbrev extTagBack : ExtTag → extᵈ.ExtTag
+abbrev pub extTagBack : ExtTag → extᵈ.ExtTag
 extTagBack (ext name rest) = record { tag = spanBack name; rest = partBack rest }
 
-ext-tag-back : (t : extᵈ.ExtTag) → extTagBack (extTagOf t) ≡ t
+pub ext-tag-back : (t : extᵈ.ExtTag) → extTagBack (extTagOf t) ≡ t
 ext-tag-back t = ap (λ (p : partᵈ.Part). record { tag = t .tag; rest = p }) (part-back (t .rest))
 
 pub ext-tag-only : Only extTagOf
@@ -219,12 +219,12 @@ ext-tag-res-only = only-by extTagRes extTagResBack go
     go (extResᵛ.Fail why) = ap extResᵛ.Fail (why-back why)
     go (extResᵛ.Ok t n) = ap (λ (q : extᵈ.ExtTag). extResᵛ.Ok q n) (ext-tag-back t)
 
-abbrev typeBack : PlaylistType → typeᵈ.PlaylistType
+abbrev pub typeBack : PlaylistType → typeᵈ.PlaylistType
 typeBack event = typeᵛ.Event
 typeBack vod = typeᵛ.Vod
 typeBack (other s) = typeᵛ.Other (spanBack s)
 
-type-back : (t : typeᵈ.PlaylistType) → typeBack (typeOf t) ≡ t
+pub type-back : (t : typeᵈ.PlaylistType) → typeBack (typeOf t) ≡ t
 type-back typeᵛ.Event = refl
 type-back typeᵛ.Vod = refl
 type-back (typeᵛ.Other s) = refl

@@ -53,6 +53,10 @@ version : numberOrZero (bytes "18446744073709551616") 0 ≡ ok 0 20
 unfolding numberOrZero parsed isDigit runEnd run decimal
 version = refl
 
+no-version : numberOrZero (bytes "v") 0 ≡ fail noDigits
+unfolding numberOrZero parsed isDigit runEnd run decimal
+no-version = refl
+
 -- ---- byte ranges
 both : byteRangeVal (bytes "9@7x") 0 ≡ ok (range 9 (some 7)) 3
 unfolding byteRangeVal number parsed isDigit runEnd run decimal tagged begins

@@ -1,0 +1,81 @@
+-- What a reading counts: its clips are the records that it makes, its kept tags at most the tags that it meets, and neither is more than its steps.
+-- By cases on a tag, then by induction on the steps. Assumes nothing.
+use mathlib.Core.Path.{_≡_, refl}
+use mathlib.Core.List.{List, [], _∷_}
+use Prim.Native.Nat.{ℕ, _+_, _≤_}
+use native.Mathlib.Omega.{arith}
+use lib.ListN.{length, length-append}
+use Rattle.tags.specs.Tags.{Tag, ofHead, ofClip, unknown, comment, uri, leftOut, Taken, took}
+use Rattle.media.specs.Assembly.{State, state, next, clipIn, tagIn, lastOf, clipsOf, tagsOf, clipCount, keptTags}
+
+-- the unknown tags so far: of the clips, and since
+abbrev pub metTags : State → ℕ
+metTags (state h s c f p) = f + p
+
+pub next-clips : (s : State) (t : Tag) → clipCount (next s t) ≡ clipCount s + length (clipIn s t)
+unfolding next
+next-clips (state h s c f p) (ofHead t) = omega arith
+next-clips (state h s c f p) (ofClip t) = omega arith
+next-clips (state h s c f p) (unknown t) = omega arith
+next-clips (state h s c f p) (comment t) = omega arith
+next-clips (state h s c f p) (uri u) = refl
+next-clips (state h s c f p) leftOut = omega arith
+
+pub next-tags : (s : State) (t : Tag) → metTags (next s t) ≡ metTags s + length (tagIn t)
+unfolding next
+next-tags (state h s c f p) (ofHead t) = omega arith
+next-tags (state h s c f p) (ofClip t) = omega arith
+next-tags (state h s c f p) (unknown t) = omega arith
+next-tags (state h s c f p) (comment t) = omega arith
+next-tags (state h s c f p) (uri u) = omega arith
+next-tags (state h s c f p) leftOut = omega arith
+
+pub clip-in-one : (s : State) (t : Tag) → length (clipIn s t) ≤ 1
+clip-in-one (state h s c f p) (ofHead t) = omega arith
+clip-in-one (state h s c f p) (ofClip t) = omega arith
+clip-in-one (state h s c f p) (unknown t) = omega arith
+clip-in-one (state h s c f p) (comment t) = omega arith
+clip-in-one (state h s c f p) (uri u) = omega arith
+clip-in-one (state h s c f p) leftOut = omega arith
+
+pub tag-in-one : (t : Tag) → length (tagIn t) ≤ 1
+tag-in-one (ofHead t) = omega arith
+tag-in-one (ofClip t) = omega arith
+tag-in-one (unknown t) = omega arith
+tag-in-one (comment t) = omega arith
+tag-in-one (uri u) = omega arith
+tag-in-one leftOut = omega arith
+
+pub count-clips : (s : State) (ts : List Taken) → clipCount (lastOf s ts) ≡ clipCount s + length (clipsOf s ts)
+unfolding lastOf clipsOf
+count-clips s [] = omega arith
+count-clips s (took at t ∷ ts) = rw length-append (omega (arith, count-clips (next s t) ts, next-clips s t))
+
+pub count-tags : (s : State) (ts : List Taken) → metTags (lastOf s ts) ≡ metTags s + length (tagsOf ts)
+unfolding lastOf tagsOf
+count-tags s [] = omega arith
+count-tags s (took at t ∷ ts) = rw length-append (omega (arith, count-tags (next s t) ts, next-tags s t))
+
+pub kept-met : (s : State) → keptTags s ≤ metTags s
+kept-met (state h s c f p) = omega arith
+
+-- what is kept was met
+pub kept : (s : State) (ts : List Taken) → keptTags (lastOf s ts) ≤ metTags s + length (tagsOf ts)
+kept s ts = omega (arith, kept-met (lastOf s ts), count-tags s ts)
+
+-- a step makes one record at most
+pub clips-steps : (s : State) (ts : List Taken) → length (clipsOf s ts) ≤ length ts
+unfolding clipsOf
+clips-steps s [] = omega arith
+clips-steps s (took at t ∷ ts) = rw length-append (omega (arith, clip-in-one s t, clips-steps (next s t) ts))
+
+pub tags-steps : (ts : List Taken) → length (tagsOf ts) ≤ length ts
+unfolding tagsOf
+tags-steps [] = omega arith
+tags-steps (took at t ∷ ts) = rw length-append (omega (arith, tag-in-one t, tags-steps ts))
+
+pub clip-count-steps : (s : State) (ts : List Taken) → clipCount (lastOf s ts) ≤ clipCount s + length ts
+clip-count-steps s ts = omega (arith, count-clips s ts, clips-steps s ts)
+
+pub met-tags-steps : (s : State) (ts : List Taken) → metTags (lastOf s ts) ≤ metTags s + length ts
+met-tags-steps s ts = omega (arith, count-tags s ts, tags-steps ts)

@@ -1,0 +1,20 @@
+-- a record's flags do not wrap
+pub mod Flags
+-- how many words records have
+pub mod Records
+-- how many clips and tags a reading counts
+pub mod Counts
+-- words laid into a table
+pub mod Sets
+-- where a step's words are laid
+pub mod Fills
+-- the steps, done from here
+pub mod Passes
+-- what is left to fill, laid from here
+pub mod Filling
+-- what the call answers at each exit
+pub mod Answered
+-- no second result fits
+pub mod Only
+-- the readers that 01 throws out
+pub mod ThrownOut

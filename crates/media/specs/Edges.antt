@@ -1,0 +1,87 @@
+-- 01, "Both sides of each edge": the starred texts, and what each must give, in one statement. Assumes nothing.
+use Prim.Native.Nat.{ℕ}
+use mathlib.Core.Path.{_≡_, refl}
+use mathlib.Core.Bool.{true, false}
+use mathlib.Core.List.{List, [], _∷_, _++_}
+use mathlib.Core.Option.{none, some}
+use Rattle.text.specs.Nom.{span, bytes, isDigit, begins, tagged, afterTag, run, runEnd, decimal}
+use Rattle.text.specs.Many.{many0, manyTurns}
+use Rattle.text.specs.Utf8.{utf8End, utf8Char, row2, row3, row4, byteIn}
+use Rattle.text.specs.Util.{consumeLine, parsed, number, numberOrZero, byteRangeVal, spells}
+use Rattle.text.specs.BasicTags.{extTag, ext, ExtTag, commentTag, playlistType}
+use Rattle.attributes.specs.Pairs.{quoted, unquoted, keyValuePair, nextPair, keyValuePairs, inserted}
+use Rattle.attributes.specs.ExtMap.{extmap}
+use Rattle.lengths.specs.Duration.{counted, float, durationTitleTag}
+use Rattle.tables.specs.Refusal.{Answer, refused, given, noHeader, isMaster, leftOutTag}
+use Rattle.verdict.specs.Verdict.{masterTag, mediaTag, playlistTag, segmentTag, isMasterPlaylistTagLine, firstSaid, verdictFrom}
+use Rattle.verdict.specs.Calls.{admitted, verdictOf}
+use Rattle.tags.specs.Tags as tags
+use Rattle.media.specs.Assembly.{head, emptyHead, segment, emptySegment, next, Clip, clip, lastOf, clipsOf, tagsOf}
+use Rattle.media.specs.Calls.{firstStep, stepsOf, stopOf, unlessMet, Read, read, parseMediaPlaylist, clipsRead, tagsRead}
+
+-- all that a reading gives: head, counts and stopping place; the clips; the kept tags
+pub data Outcome : Type 0 where
+  outcome : Read → List Clip → List ExtTag → Outcome
+
+abbrev pub outcomeOf : Answer Read → List Clip → List ExtTag → Answer Outcome
+outcomeOf (refused r p) cs ts = refused r p
+outcomeOf (given a) cs ts = given (outcome a cs ts)
+
+-- with room for 32 clips and 32 tags
+unfoldable pub reading : List ℕ → Answer Outcome
+reading text = outcomeOf (parseMediaPlaylist text 1024 128) (clipsRead text) (tagsRead text)
+
+unfoldable pub readings : List (List ℕ) → List (Answer Outcome)
+readings [] = []
+readings (t ∷ ts) = reading t ∷ readings ts
+
+-- M is `#EXTM3U` and LF
+abbrev M : List ℕ
+M = bytes "#EXTM3U\n"
+
+abbrev pub texts : List (List ℕ)
+texts =
+    bytes ""
+    ∷ bytes "#EXTM3U"
+    ∷ (M ++ bytes "#EXTINF:9,a,b\nx\n")
+    ∷ (M ++ bytes "#EXT-X-TARGETDURATION:10.5\n")
+    ∷ (M ++ bytes "#EXT-X-FOO")
+    ∷ (M ++ bytes "#EXT-X-FOO\n")
+    ∷ (M ++ bytes "#EXT-X-MAP:URI=\"\"\nx\n")
+    ∷ (M ++ bytes "#EXT-X-MAP:URI=\"m\",z\ny?k=1\n")
+    ∷ (M ++ bytes "#EXT-X-DISCONTINUITY-SEQUENCE:q\n")
+    ∷ (M ++ bytes "a\rb\n")
+    ∷ (M ++ bytes "#EXT-X-MEDIA\n")
+    ∷ (M ++ bytes "#EXT-X-KEY:METHOD=NONE\n")
+    ∷ []
+
+abbrev pub expected : List (Answer Outcome)
+expected =
+    -- empty: 3 at 0
+    refused noHeader 0
+    -- no clips, stopped at 7
+    ∷ given (outcome (read emptyHead 0 0 7) [] [])
+    -- clips `b` (9 s, title `a`), `x` (0)
+    ∷ given (outcome (read emptyHead 2 0 24) (clip (span 20 21) (segment 9000000000 (some (span 18 19)) none false none) 0 0 ∷ clip (span 22 23) emptySegment 0 0 ∷ []) [])
+    -- target 10, clip `.5`
+    ∷ given (outcome (read (head none 10 0 0 none false false false) 1 0 35) (clip (span 32 34) emptySegment 0 0 ∷ []) [])
+    -- clip `#EXT-X-FOO`; with \n no clip
+    ∷ given (outcome (read emptyHead 1 0 18) (clip (span 8 18) emptySegment 0 0 ∷ []) [])
+    ∷ given (outcome (read emptyHead 0 0 19) [] [])
+    -- `x`, unknown X-MAP, rest `URI=""`
+    ∷ given (outcome (read emptyHead 1 1 28) (clip (span 26 27) emptySegment 0 1 ∷ []) (ext (span 13 18) (some (span 19 25)) ∷ []))
+    -- no clip
+    ∷ given (outcome (read emptyHead 0 0 35) [] [])
+    -- clip `-SEQUENCE:q`, discontinuity
+    ∷ given (outcome (read emptyHead 1 0 40) (clip (span 28 39) (segment 0 none none true none) 0 0 ∷ []) [])
+    -- no clip, stopped at 8
+    ∷ given (outcome (read emptyHead 0 0 8) [] [])
+    -- 4 at 8
+    ∷ refused isMaster 8
+    -- 5 at 8
+    ∷ refused leftOutTag 8
+    ∷ []
+
+pub edges : readings texts ≡ expected
+unfolding readings reading parseMediaPlaylist clipsRead tagsRead firstStep stepsOf stopOf unlessMet next lastOf clipsOf tagsOf tags.step tags.mediaPlaylistTag tags.mediaSegmentTag tags.playlistTag tags.segmentTag tags.otherTag admitted verdictOf verdictFrom firstSaid isMasterPlaylistTagLine masterTag mediaTag playlistTag segmentTag durationTitleTag float counted extmap keyValuePairs nextPair keyValuePair quoted unquoted inserted extTag commentTag playlistType consumeLine parsed number numberOrZero byteRangeVal spells utf8End utf8Char row2 row3 row4 byteIn many0 manyTurns isDigit begins tagged afterTag run runEnd decimal
+edges = refl

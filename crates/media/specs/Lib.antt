@@ -1,0 +1,10 @@
+-- parser.rs: media_playlist_from_tags
+pub mod Assembly
+-- the words of a record
+pub mod Words
+-- the public call
+pub mod Calls
+-- what the code's values say in these words
+pub mod Answers
+-- 01, the starred edges
+pub mod Edges

@@ -1,0 +1,190 @@
+// The words of a record, in the order of the layout. What is absent is zeros.
+use crate::segment::SegmentMap;
+use crate::state::Clip;
+use attributes::ext_map::OptRange;
+use lengths::binary32;
+use tables::layout;
+use text::Part;
+use text::basic_tags::ExtTag;
+use text::util::Offset;
+ghost use mathlib.Core.Path.{_≡_};
+ghost use mathlib.Core.List.{[], _∷_};
+ghost use Prim.Native.Nat.{_+_, _<_};
+ghost use Rattle.text.specs.Answers.{partOf, extTagOf};
+ghost use Rattle.attributes.specs.Answers.{rangeAt};
+ghost use Rattle.tables.specs.Layout.{flagLimit};
+ghost use Rattle.media.specs.Words as rule;
+ghost use Rattle.media.specs.Answers.{segmentMapOf, clipSeen};
+
+// A part's start and end, or a range's length and offset.
+struct Two {
+    first: u64,
+    second: u64,
+}
+
+fn part_words(p: Part) -> Two
+    ensures { λ r. ⌜ r .first ∷ r .second ∷ [] ≡ rule.partWords (partOf p) ⌝ }
+{
+    match p {
+        Part::Present(s) => Two {
+            first: s.start as u64,
+            second: s.end as u64,
+        },
+        Part::Absent => Two {
+            first: 0,
+            second: 0,
+        },
+    }
+}
+
+fn range_words(r: OptRange) -> Two
+    ensures { λ w. ⌜ w .first ∷ w .second ∷ [] ≡ rule.rangeWords (rangeAt r) ⌝ }
+{
+    match r {
+        OptRange::Present(range) => {
+            let offset = range.offset;
+            match offset {
+                Offset::At(o) => Two {
+                    first: range.length,
+                    second: o,
+                },
+                Offset::Absent => Two {
+                    first: range.length,
+                    second: 0,
+                },
+            }
+        }
+        OptRange::Absent => Two {
+            first: 0,
+            second: 0,
+        },
+    }
+}
+
+struct MapWords {
+    uri_start: u64,
+    uri_end: u64,
+    range_length: u64,
+    range_offset: u64,
+    list_start: u64,
+    list_end: u64,
+}
+
+fn map_words(m: SegmentMap) -> MapWords
+    ensures { λ r. ⌜ r .«uri_start» ∷ r .«uri_end» ∷ r .«range_length» ∷ r .«range_offset» ∷ r .«list_start» ∷ r .«list_end» ∷ [] ≡ rule.mapWords (segmentMapOf m) ⌝ }
+{
+    match m {
+        SegmentMap::Is(m) => {
+            let uri = m.uri;
+            let list = m.list;
+            let range = m.byte_range;
+            let range = range_words(range);
+            MapWords {
+                uri_start: uri.start as u64,
+                uri_end: uri.end as u64,
+                range_length: range.first,
+                range_offset: range.second,
+                list_start: list.start as u64,
+                list_end: list.end as u64,
+            }
+        }
+        SegmentMap::Absent => MapWords {
+            uri_start: 0,
+            uri_end: 0,
+            range_length: 0,
+            range_offset: 0,
+            list_start: 0,
+            list_end: 0,
+        },
+    }
+}
+
+// `present` tells of a range, `offset` of its offset.
+fn range_flags(present: u64, offset: u64, r: OptRange) -> u64
+    requires { ⌜ present + offset < flagLimit ⌝ }
+    ensures { λ f. ⌜ f ≡ rule.rangeFlags present offset (rangeAt r) ⌝ }
+{
+    match r {
+        OptRange::Present(range) => {
+            let at = range.offset;
+            match at {
+                Offset::At(_) => present + offset,
+                Offset::Absent => present,
+            }
+        }
+        OptRange::Absent => 0,
+    }
+}
+
+fn break_flags(discontinuity: bool) -> u64
+    ensures { λ r. ⌜ r ≡ rule.breakFlags discontinuity ⌝ }
+{
+    if discontinuity {
+        layout::HAS_DISCONTINUITY
+    } else {
+        0
+    }
+}
+
+fn map_flags(m: SegmentMap) -> u64
+    ensures { λ r. ⌜ r ≡ rule.mapFlags (segmentMapOf m) ⌝ }
+{
+    match m {
+        SegmentMap::Is(m) => {
+            let range = m.byte_range;
+            layout::HAS_MAP + range_flags(layout::HAS_MAP_RANGE, layout::HAS_MAP_OFFSET, range)
+        }
+        SegmentMap::Absent => 0,
+    }
+}
+
+fn flags(r: OptRange, discontinuity: bool, m: SegmentMap) -> u64
+    ensures { λ f. ⌜ f ≡ rule.flagsOf (rangeAt r) discontinuity (segmentMapOf m) ⌝ }
+{
+    range_flags(layout::HAS_RANGE, layout::HAS_RANGE_OFFSET, r)
+        + break_flags(discontinuity)
+        + map_flags(m)
+}
+
+pub fn clip_words(c: Clip) -> [u64; layout::CLIP_WORDS]
+    ensures { λ r. ⌜ r ≡ rule.clipWordsOf (clipSeen c) ⌝ }
+{
+    let uri = c.uri;
+    let segment = c.segment;
+    let title = segment.title;
+    let byte_range = segment.byte_range;
+    let ext_map = segment.map;
+    let bits = binary32::seconds_bits(segment.length);
+    let title = part_words(title);
+    let flags = flags(byte_range, segment.discontinuity, ext_map);
+    let range = range_words(byte_range);
+    let map = map_words(ext_map);
+    [
+        uri.start as u64,
+        uri.end as u64,
+        segment.length,
+        bits,
+        title.first,
+        title.second,
+        flags,
+        range.first,
+        range.second,
+        map.uri_start,
+        map.uri_end,
+        map.range_length,
+        map.range_offset,
+        map.list_start,
+        map.list_end,
+        c.first as u64,
+        c.count as u64,
+    ]
+}
+
+pub fn tag_words(t: ExtTag) -> [u64; layout::TAG_WORDS]
+    ensures { λ r. ⌜ r ≡ rule.tagWordsOf (extTagOf t) ⌝ }
+{
+    let name = t.tag;
+    let rest = t.rest;
+    let rest = part_words(rest);
+    [name.start as u64, name.end as u64, rest.first, rest.second]
+}

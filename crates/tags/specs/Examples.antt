@@ -1,0 +1,93 @@
+-- Worked examples, by computation: for each alternative a text that it takes and one that it refuses, and what is taken then. Assumes nothing.
+use Prim.Native.String.{String}
+use mathlib.Core.Path.{_≡_, refl}
+use mathlib.Core.Option.{none, some}
+use Rattle.text.specs.Why.{missingByte, loneCr}
+use Rattle.text.specs.Many.{many0, manyTurns}
+use Rattle.text.specs.Nom.{Res, fail, ok, span, bytes, isDigit, begins, tagged, afterTag, run, runEnd, decimal}
+use Rattle.text.specs.Util.{consumeLine, parsed, number, numberOrZero, range, byteRangeVal, spells}
+use Rattle.text.specs.BasicTags.{ext, extTag, commentTag, vod, playlistType}
+use Rattle.attributes.specs.Pairs.{quoted, unquoted, keyValuePair, nextPair, keyValuePairs, inserted}
+use Rattle.attributes.specs.ExtMap.{extMap, extmap}
+use Rattle.lengths.specs.Duration.{counted, ns, float, extinf, durationTitleTag}
+use Rattle.tags.specs.Tags.{version, targetDuration, mediaSequence, discontinuitySequence, typed, iFramesOnly, independentSegments, endList, timed, ranged, discontinuity, mapped, Tag, ofHead, ofClip, unknown, comment, uri, leftOut, playlistTag, segmentTag, otherTag, mediaSegmentTag, mediaPlaylistTag, took, step}
+
+-- what is taken at a text's start
+unfoldable taken : String → Res Tag
+unfolding mediaPlaylistTag playlistTag mediaSegmentTag segmentTag otherTag extTag commentTag consumeLine number numberOrZero parsed byteRangeVal playlistType spells durationTitleTag float counted extmap keyValuePairs nextPair keyValuePair quoted unquoted inserted many0 manyTurns isDigit decimal runEnd run afterTag tagged begins
+taken text = mediaPlaylistTag (bytes text) 0
+
+-- ---- the head
+-- too large: as 0
+of-version : (taken "#EXT-X-VERSION:3\n" ≡ ok (ofHead (version 3)) 16) × (taken "#EXT-X-VERSION:18446744073709551616\n" ≡ ok (ofHead (version 0)) 35)
+unfolding taken
+of-version = (refl, refl)
+
+-- too large: an unknown tag
+of-target : (taken "#EXT-X-TARGETDURATION:10.5\n" ≡ ok (ofHead (targetDuration 10)) 24) × (taken "#EXT-X-TARGETDURATION:18446744073709551616\n" ≡ ok (unknown (ext (span 5 21) (some (span 22 42)))) 43)
+unfolding taken
+of-target = (refl, refl)
+
+of-sequence : (taken "#EXT-X-MEDIA-SEQUENCE:7\n" ≡ ok (ofHead (mediaSequence 7)) 23) × (taken "#EXT-X-MEDIA-SEQUENCE\n" ≡ ok (unknown (ext (span 5 21) none)) 22)
+unfolding taken
+of-sequence = (refl, refl)
+
+-- no number: a discontinuity, which ends before `-SEQUENCE`
+of-discontinuity : (taken "#EXT-X-DISCONTINUITY-SEQUENCE:4\n" ≡ ok (ofHead (discontinuitySequence 4)) 31) × (taken "#EXT-X-DISCONTINUITY-SEQUENCE:q\n" ≡ ok (ofClip discontinuity) 20)
+unfolding taken
+of-discontinuity = (refl, refl)
+
+of-type : (taken "#EXT-X-PLAYLIST-TYPE:VOD\n" ≡ ok (ofHead (typed vod)) 25) × (taken "#EXT-X-PLAYLIST-TYPE:\n" ≡ ok (unknown (ext (span 5 20) none)) 22)
+unfolding taken
+of-type = (refl, refl)
+
+of-i-frames : (taken "#EXT-X-I-FRAMES-ONLY\n" ≡ ok (ofHead iFramesOnly) 20) × (taken "#EXT-X-I-FRAMES\n" ≡ ok (unknown (ext (span 5 15) none)) 16)
+unfolding taken
+of-i-frames = (refl, refl)
+
+of-independent : (taken "#EXT-X-INDEPENDENT-SEGMENTS\n" ≡ ok (ofHead independentSegments) 27) × (taken "#EXT-X-INDEPENDENT\n" ≡ ok (unknown (ext (span 5 18) none)) 19)
+unfolding taken
+of-independent = (refl, refl)
+
+-- whatever follows
+of-end : (taken "#EXT-X-ENDLISTS" ≡ ok (ofHead endList) 14) × (taken "#EXT-X-END\n" ≡ ok (unknown (ext (span 5 10) none)) 11)
+unfolding taken
+of-end = (refl, refl)
+
+-- ---- the clips
+-- no length: a comment
+of-length : (taken "#EXTINF:9,a,b\nx\n" ≡ ok (ofClip (timed (extinf (ns 9000000000) (some (span 10 11))))) 12) × (taken "#EXTINF:x\n" ≡ ok (comment (some (span 1 9))) 10)
+unfolding taken
+of-length = (refl, refl)
+
+of-range : (taken "#EXT-X-BYTERANGE:9@7\n" ≡ ok (ofClip (ranged (range 9 (some 7)))) 20) × (taken "#EXT-X-BYTERANGE:@7\n" ≡ ok (unknown (ext (span 5 16) (some (span 17 19)))) 20)
+unfolding taken
+of-range = (refl, refl)
+
+of-map : (taken "#EXT-X-MAP:URI=\"m\"\n" ≡ ok (ofClip (mapped (extMap (span 16 17) none (span 11 18)))) 18) × (taken "#EXT-X-MAP:URI=\"\"\nx\n" ≡ ok (unknown (ext (span 5 10) (some (span 11 17)))) 18)
+unfolding taken
+of-map = (refl, refl)
+
+-- left out, but only with the colon
+of-key : (taken "#EXT-X-KEY:METHOD=NONE\n" ≡ ok leftOut 11) × (taken "#EXT-X-KEY\n" ≡ ok (unknown (ext (span 5 10) none)) 11)
+unfolding taken
+of-key = (refl, refl)
+
+-- ---- what else may stand there
+-- without its line end a tag is a URI, and so is a comment
+of-foo : (taken "#EXT-X-FOO:a\n" ≡ ok (unknown (ext (span 5 10) (some (span 11 12)))) 13) × (taken "#EXT-X-FOO" ≡ ok (uri (span 0 10)) 10)
+unfolding taken
+of-foo = (refl, refl)
+
+of-comment : (taken "#\n" ≡ ok (comment none) 2) × (taken "#a" ≡ ok (uri (span 0 2)) 2)
+unfolding taken
+of-comment = (refl, refl)
+
+of-uri : (taken "a b \r\n" ≡ ok (uri (span 0 4)) 6) × (taken "a\rb\n" ≡ fail loneCr) × (taken "" ≡ fail missingByte)
+unfolding taken
+of-uri = (refl, refl, refl)
+
+-- a step drops the blanks after what it took
+of-step : (step (bytes "a\n \t\r\nb") 0 ≡ ok (took 0 (uri (span 0 1))) 6) × (step (bytes "a\n \t\r\nb") 6 ≡ ok (took 6 (uri (span 6 7))) 7)
+unfolding step mediaPlaylistTag playlistTag mediaSegmentTag segmentTag otherTag extTag commentTag consumeLine runEnd run tagged begins
+of-step = (refl, refl)

@@ -1,0 +1,133 @@
+// parser.rs, `media_playlist_tag`: the tags of a playlist's head.
+use crate::HeadTag;
+use crate::Tag;
+use crate::TagRes;
+use crate::marked;
+use text::Why;
+use text::basic_tags;
+use text::basic_tags::PlaylistTypeRes;
+use text::scan;
+use text::util;
+use text::util::Parsed;
+ghost use mathlib.Core.Path.{_≡_};
+ghost use Rattle.text.specs.Nom as nom;
+ghost use Rattle.text.specs.Util as util;
+ghost use Rattle.tags.specs.Tags as rule;
+ghost use Rattle.tags.specs.Answers.{numberRes, tagRes};
+
+// A number after a fixed text.
+pub enum NumberRes {
+    Fail(Why),
+    Ok(u64, usize),
+}
+
+fn number_after(text: &[u8], at: usize, fixed: &[u8]) -> NumberRes
+    ensures { λ r. ⌜ numberRes r ≡ nom.preceded (nom.tag (now (fixed .entry))) util.number (now (text .entry)) at ⌝ }
+{
+    if scan::starts_with(text, at, fixed) {
+        match util::number(text, at + fixed.len()) {
+            Parsed::Value(n, after) => NumberRes::Ok(n, after),
+            Parsed::TooLarge(_) => NumberRes::Fail(Why::TooLarge),
+            Parsed::NoDigits => NumberRes::Fail(Why::NoDigits),
+        }
+    } else {
+        NumberRes::Fail(Why::OtherText)
+    }
+}
+
+// A version that is too large reads as 0.
+fn version_tag(text: &[u8], at: usize) -> TagRes
+    ensures { λ r. ⌜ tagRes r ≡ rule.versionTag (now (text .entry)) at ⌝ }
+{
+    let fixed = b"#EXT-X-VERSION:";
+    if scan::starts_with(text, at, fixed) {
+        match util::number(text, at + fixed.len()) {
+            Parsed::Value(n, after) => TagRes::Ok(Tag::Head(HeadTag::Version(n)), after),
+            Parsed::TooLarge(after) => TagRes::Ok(Tag::Head(HeadTag::Version(0)), after),
+            Parsed::NoDigits => TagRes::Fail(Why::NoDigits),
+        }
+    } else {
+        TagRes::Fail(Why::OtherText)
+    }
+}
+
+fn target_duration_tag(text: &[u8], at: usize) -> TagRes
+    ensures { λ r. ⌜ tagRes r ≡ rule.targetDurationTag (now (text .entry)) at ⌝ }
+{
+    match number_after(text, at, b"#EXT-X-TARGETDURATION:") {
+        NumberRes::Ok(n, after) => TagRes::Ok(Tag::Head(HeadTag::TargetDuration(n)), after),
+        NumberRes::Fail(why) => TagRes::Fail(why),
+    }
+}
+
+fn media_sequence_tag(text: &[u8], at: usize) -> TagRes
+    ensures { λ r. ⌜ tagRes r ≡ rule.mediaSequenceTag (now (text .entry)) at ⌝ }
+{
+    match number_after(text, at, b"#EXT-X-MEDIA-SEQUENCE:") {
+        NumberRes::Ok(n, after) => TagRes::Ok(Tag::Head(HeadTag::MediaSequence(n)), after),
+        NumberRes::Fail(why) => TagRes::Fail(why),
+    }
+}
+
+fn discontinuity_sequence_tag(text: &[u8], at: usize) -> TagRes
+    ensures { λ r. ⌜ tagRes r ≡ rule.discontinuitySequenceTag (now (text .entry)) at ⌝ }
+{
+    match number_after(text, at, b"#EXT-X-DISCONTINUITY-SEQUENCE:") {
+        NumberRes::Ok(n, after) => TagRes::Ok(Tag::Head(HeadTag::DiscontinuitySequence(n)), after),
+        NumberRes::Fail(why) => TagRes::Fail(why),
+    }
+}
+
+fn playlist_type_tag(text: &[u8], at: usize) -> TagRes
+    ensures { λ r. ⌜ tagRes r ≡ rule.playlistTypeTag (now (text .entry)) at ⌝ }
+{
+    let fixed = b"#EXT-X-PLAYLIST-TYPE:";
+    if scan::starts_with(text, at, fixed) {
+        match basic_tags::playlist_type(text, at + fixed.len()) {
+            PlaylistTypeRes::Ok(t, after) => TagRes::Ok(Tag::Head(HeadTag::Typed(t)), after),
+            PlaylistTypeRes::Fail(why) => TagRes::Fail(why),
+        }
+    } else {
+        TagRes::Fail(Why::OtherText)
+    }
+}
+
+pub fn playlist_tag(text: &[u8], at: usize) -> TagRes
+    ensures { λ r. ⌜ tagRes r ≡ rule.playlistTag (now (text .entry)) at ⌝ }
+{
+    match version_tag(text, at) {
+        TagRes::Ok(t, after) => return TagRes::Ok(t, after),
+        TagRes::Fail(_) => {}
+    }
+    match target_duration_tag(text, at) {
+        TagRes::Ok(t, after) => return TagRes::Ok(t, after),
+        TagRes::Fail(_) => {}
+    }
+    match media_sequence_tag(text, at) {
+        TagRes::Ok(t, after) => return TagRes::Ok(t, after),
+        TagRes::Fail(_) => {}
+    }
+    match discontinuity_sequence_tag(text, at) {
+        TagRes::Ok(t, after) => return TagRes::Ok(t, after),
+        TagRes::Fail(_) => {}
+    }
+    match playlist_type_tag(text, at) {
+        TagRes::Ok(t, after) => return TagRes::Ok(t, after),
+        TagRes::Fail(_) => {}
+    }
+    let frames = Tag::Head(HeadTag::IFramesOnly);
+    match marked(text, at, b"#EXT-X-I-FRAMES-ONLY", frames) {
+        TagRes::Ok(t, after) => return TagRes::Ok(t, after),
+        TagRes::Fail(_) => {}
+    }
+    match marked(text, at, b"#EXT-X-START:", Tag::LeftOut) {
+        TagRes::Ok(t, after) => return TagRes::Ok(t, after),
+        TagRes::Fail(_) => {}
+    }
+    let apart = Tag::Head(HeadTag::IndependentSegments);
+    match marked(text, at, b"#EXT-X-INDEPENDENT-SEGMENTS", apart) {
+        TagRes::Ok(t, after) => return TagRes::Ok(t, after),
+        TagRes::Fail(_) => {}
+    }
+    marked(text, at, b"#EXT-X-ENDLIST", Tag::Head(HeadTag::EndList))
+}
