@@ -1,0 +1,2 @@
+-- a byte and a text more, and the digits of a number
+pub mod Laws
