@@ -18,3 +18,5 @@ pub mod Answered
 pub mod Only
 -- the readers that 01 throws out
 pub mod ThrownOut
+-- what was stored is read back
+pub mod ReadBack
