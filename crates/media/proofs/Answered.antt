@@ -19,6 +19,7 @@ use Rattle.tables.specs.Refusal.{Refusal, Answer, refused, given, textTooLong, 
 use Rattle.tables.specs.Table.{clipsFit, tagsFit, fits}
 use Rattle.tables.proofs.Records.{fits-words}
 use Rattle.tables.proofs.Refusals.{Front, front-or, front-then, given-refuses}
+use Rattle.tables.proofs.Sets.{sets-over}
 use Rattle.verdict.specs.Verdict.{master, media}
 use Rattle.verdict.specs.Calls.{textLimit, header, admitted, verdictOf}
 use Rattle.tags.specs.Tags.{Taken, took, step}
@@ -27,7 +28,6 @@ use Rattle.media.specs.Words.{clipsWords, tagsWords}
 use Rattle.media.specs.Calls.{firstStep, stepsOf, stopOf, refusedTag, unless, unlessMet, counts, counted, Read, Counts, readFrom, unlessShort, parseMediaPlaylist, clipsRead, tagsRead, ParsedAs}
 use Rattle.media.proofs.Records.{clips-words-length, tags-words-length}
 use Rattle.media.proofs.Counts.{count-clips}
-use Rattle.media.proofs.Sets.{sets-over}
 use Rattle.media.proofs.Passes.{stepsFrom}
 
 -- ---- the steps' refusals stand before whatever answer follows

@@ -19,7 +19,7 @@ next-clips (state h s c f p) (ofClip t) = omega arith
 next-clips (state h s c f p) (unknown t) = omega arith
 next-clips (state h s c f p) (comment t) = omega arith
 next-clips (state h s c f p) (uri u) = refl
-next-clips (state h s c f p) leftOut = omega arith
+next-clips (state h s c f p) (leftOut t) = omega arith
 
 pub next-tags : (s : State) (t : Tag) → metTags (next s t) ≡ metTags s + length (tagIn t)
 unfolding next
@@ -28,7 +28,7 @@ next-tags (state h s c f p) (ofClip t) = omega arith
 next-tags (state h s c f p) (unknown t) = omega arith
 next-tags (state h s c f p) (comment t) = omega arith
 next-tags (state h s c f p) (uri u) = omega arith
-next-tags (state h s c f p) leftOut = omega arith
+next-tags (state h s c f p) (leftOut t) = omega arith
 
 pub clip-in-one : (s : State) (t : Tag) → length (clipIn s t) ≤ 1
 clip-in-one (state h s c f p) (ofHead t) = omega arith
@@ -36,7 +36,7 @@ clip-in-one (state h s c f p) (ofClip t) = omega arith
 clip-in-one (state h s c f p) (unknown t) = omega arith
 clip-in-one (state h s c f p) (comment t) = omega arith
 clip-in-one (state h s c f p) (uri u) = omega arith
-clip-in-one (state h s c f p) leftOut = omega arith
+clip-in-one (state h s c f p) (leftOut t) = omega arith
 
 pub tag-in-one : (t : Tag) → length (tagIn t) ≤ 1
 tag-in-one (ofHead t) = omega arith
@@ -44,7 +44,7 @@ tag-in-one (ofClip t) = omega arith
 tag-in-one (unknown t) = omega arith
 tag-in-one (comment t) = omega arith
 tag-in-one (uri u) = omega arith
-tag-in-one leftOut = omega arith
+tag-in-one (leftOut t) = omega arith
 
 pub count-clips : (s : State) (ts : List Taken) → clipCount (lastOf s ts) ≡ clipCount s + length (clipsOf s ts)
 unfolding lastOf clipsOf

@@ -8,10 +8,10 @@ use native.Mathlib.Omega.{arith}
 use lib.ListN.{length, take, length-take}
 use lib.Seq.{sets, take-nil}
 use Rattle.tables.specs.Layout.{clipWords, tagWords}
+use Rattle.tables.proofs.Sets.{sets-append}
 use Rattle.tags.specs.Tags.{Tag, Taken, took}
 use Rattle.media.specs.Assembly.{State, next, clipIn, tagIn, clipsOf, tagsOf, clipCount}
 use Rattle.media.specs.Words.{clipsWords, tagsWords}
-use Rattle.media.proofs.Sets.{sets-append}
 use Rattle.media.proofs.Records.{clips-words-length, tags-words-length, clips-words-append, tags-words-append}
 use Rattle.media.proofs.Counts.{metTags, next-clips, next-tags}
 

@@ -4,8 +4,6 @@ pub mod Flags
 pub mod Records
 -- how many clips and tags a reading counts
 pub mod Counts
--- words laid into a table
-pub mod Sets
 -- where a step's words are laid
 pub mod Fills
 -- the steps, done from here

@@ -1,22 +1,15 @@
 -- What was stored is read back: the word at a place of record k of the table is that word of the k-th clip, and of the k-th tag. Assumes nothing.
-use Prim.Native.Nat.{ℕ, _+_, _*_, _<_}
-use mathlib.Core.Path.{_≡_, sym, _∙_, ap}
+use Prim.Native.Nat.{ℕ, _<_}
+use mathlib.Core.Path.{_≡_, _∙_, ap}
 use mathlib.Core.List.{List, _∷_, _++_, append-assoc}
-use lib.ListN.{length, getD, List·getD-append}
-use lib.Seq.{getD-append-add}
+use lib.ListN.{length, getD}
 use Rattle.text.specs.BasicTags.{ExtTag}
 use Rattle.tables.specs.Layout.{clipWords, tagWords}
-use Rattle.tables.specs.Table.{wordAt, clipWord, tagWord}
+use Rattle.tables.specs.Table.{clipWord, tagWord}
+use Rattle.tables.proofs.Sets.{words-back}
 use Rattle.media.specs.Assembly.{Clip}
 use Rattle.media.specs.Words.{clipWordsOf, tagWordsOf, clipsWords, tagsWords}
 use Rattle.media.proofs.Records.{clip-words-length, tag-words-length, clips-words-length, tags-words-length, clips-words-append, tags-words-append}
-
--- a record of w words behind n others
-words-back : (w n i : ℕ) (before words after : List ℕ) → length before ≡ n * w → length words ≡ w → i < w → wordAt w (before ++ (words ++ after)) n i ≡ getD words i 0
-words-back w n i before words after b r h =
-    ap (λ (k : ℕ). getD (before ++ (words ++ after)) (k + i) 0) (sym b)
-    ∙ getD-append-add before (words ++ after) i 0
-    ∙ List·getD-append words after 0 i (rw r h)
 
 pub clip-back : (cs ds : List Clip) (c : Clip) (rest : List ℕ) (i : ℕ) → i < clipWords → clipWord (clipsWords (cs ++ (c ∷ ds)) ++ rest) (length cs) i ≡ getD (clipWordsOf c) i 0
 unfolding clipsWords

@@ -62,7 +62,7 @@ next (state h s c f p) (unknown t) = state h s c f (p + 1)
 next (state h s c f p) (comment t) = state h s c f p
 next (state h s c f p) (uri u) = state h emptySegment (c + 1) (f + p) 0
 -- (refused by 5)
-next (state h s c f p) leftOut = state h s c f p
+next (state h s c f p) (leftOut t) = state h s c f p
 
 -- "A URI ends a clip, which takes the length and title of the latest EXTINF, the latest range and map, discontinuity and all unknown tags since the URI
 -- before": its URI, what was in the making, its first unknown tag and how many
@@ -75,7 +75,7 @@ clipIn (state h s c f p) (ofClip t) = []
 clipIn (state h s c f p) (unknown t) = []
 clipIn (state h s c f p) (comment t) = []
 clipIn (state h s c f p) (uri u) = clip u s f p ∷ []
-clipIn (state h s c f p) leftOut = []
+clipIn (state h s c f p) (leftOut t) = []
 
 abbrev pub tagIn : Tag → List ExtTag
 tagIn (ofHead t) = []
@@ -83,7 +83,7 @@ tagIn (ofClip t) = []
 tagIn (unknown t) = t ∷ []
 tagIn (comment t) = []
 tagIn (uri u) = []
-tagIn leftOut = []
+tagIn (leftOut t) = []
 
 -- ---- a whole reading
 unfoldable pub lastOf : State → List Taken → State

@@ -48,7 +48,7 @@ refusedTag (ofClip t) = refusedClip t
 refusedTag (unknown t) = none
 refusedTag (comment t) = none
 refusedTag (uri u) = none
-refusedTag leftOut = some leftOutTag
+refusedTag (leftOut t) = some leftOutTag
 
 -- each at its `#`, where its step began
 abbrev pub unless : {A : Type 0} → Option Refusal → ℕ → Answer A → Answer A

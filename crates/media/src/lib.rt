@@ -14,7 +14,6 @@ pub mod head; // version, target, sequences, type, marks
 pub mod segment; // the clip in the making
 pub mod state; // both, with the counts; a step; a clip that a URI ends
 pub mod words; // the words of a record
-mod store; // words into a lent table
 pub mod reading; // the two passes
 
 // What is given: the head, how many clips and kept unknown tags there are, and where the reading stopped.

@@ -1,11 +1,10 @@
 // Two passes over the steps: the first counts and refuses, the second fills the lent tables in order.
 use crate::state::State;
 use crate::state::Step;
-use crate::store;
 use crate::words;
 use lengths::duration::Length;
 use tables::Refusal;
-use tables::layout;
+use tables::record;
 use tags::ClipTag;
 use tags::Tag;
 ghost use mathlib.Core.Path.{_≡_};
@@ -31,7 +30,7 @@ fn refused_for(t: Tag) -> Met
     ensures { λ r. ⌜ metOf r ≡ rule.refusedTag (tagOf t) ⌝ }
 {
     match t {
-        Tag::LeftOut => Met::Refused(Refusal::LeftOutTag),
+        Tag::LeftOut(_) => Met::Refused(Refusal::LeftOutTag),
         Tag::Clip(c) => match c {
             ClipTag::Timed(e) => {
                 let length = e.duration;
@@ -87,14 +86,14 @@ fn put(clips: &mut [u64], tags: &mut [u64], s: State, t: Tag, kept: usize)
 {
     match t {
         Tag::Uri(uri) => {
-            let record = words::clip_words(s.clip(uri));
-            store::store(clips, s.clips * layout::CLIP_WORDS, &record);
+            let values = words::clip_words(s.clip(uri));
+            record::store_clip(clips, s.clips, &values);
         }
         Tag::Unknown(tag) => {
             let met = s.first + s.pending;
             if met < kept {
-                let record = words::tag_words(tag);
-                store::store(tags, met * layout::TAG_WORDS, &record);
+                let values = words::tag_words(tag);
+                record::store_tag(tags, met, &values);
             }
         }
         _ => {}

@@ -90,7 +90,7 @@ impl State {
                 s.first += s.pending;
                 s.pending = 0;
             }
-            Tag::LeftOut => {}
+            Tag::LeftOut(_) => {}
         }
         s
     }

@@ -2,5 +2,7 @@
 pub mod Every
 -- counts and indices that don't overflow
 pub mod Records
+-- words laid into a table, and read back
+pub mod Sets
 -- chains of refusals
 pub mod Refusals

@@ -1,6 +1,6 @@
--- The comparisons that keep a count and an index from overflowing, over any width. `record::fits` and `record::word` cite these.
+-- The comparisons that keep a count and an index from overflowing, over any width. `record::fits`, `record::word` and `record::store` cite these.
 -- Assumes nothing.
-use mathlib.Core.Path.{_≡_, refl, sym}
+use mathlib.Core.Path.{_≡_, refl, sym, _∙_}
 use mathlib.Core.Bool.{Bool, true, false}
 use mathlib.Core.List.{List}
 use Prim.Native.Nat.{ℕ, _+_, _-_, _*_, _/_, _≤_, _<_}
@@ -20,10 +20,22 @@ fits-quotient w n t h = go (leb n (length t / w)) refl
     go true e = sym (le-leb (n * w) (length t) (le-div-iff-mul-le h .0 (leb-true n (length t / w) e)))
     go false e = sym (lt-leb (n * w) (length t) (div-lt-iff-lt-mul h .0 (leb-false n (length t / w) e)))
 
--- what fits is there
+-- record k fits where k is below the quotient, and not where it isn't
+module _ (w k : ℕ) (t : List ℕ) (h : 0 < w) where
+  pub fits-next : k < length t / w → fits w t (k + 1) ≡ true
+  fits-next q = sym (fits-quotient w (k + 1) t h) ∙ le-leb (k + 1) (length t / w) (omega arith)
+
+  pub fits-not : length t / w ≤ k → fits w t (k + 1) ≡ false
+  fits-not q = sym (fits-quotient w (k + 1) t h) ∙ lt-leb (k + 1) (length t / w) (omega arith)
+
+-- what fits is there, and what is there fits
 pub fits-words : (w n : ℕ) (t : List ℕ) → fits w t n ≡ true → n * w ≤ length t
 unfolding fits
 fits-words w n t e = leb-true (n * w) (length t) e
+
+pub words-fit : (w n : ℕ) (t : List ℕ) → n * w ≤ length t → fits w t n ≡ true
+unfolding fits
+words-fit w n t h = le-leb (n * w) (length t) h
 
 -- record k's place i lies in the table, or past its end, as k is at most the quotient of the words from the place on
 module _ (w l i k : ℕ) (h : 0 < w) (b : i < l) where

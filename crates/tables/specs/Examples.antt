@@ -1,4 +1,4 @@
--- Words, counts and flags by computation over the rules. Assumes nothing.
+-- Words, counts, a store and flags by computation over the rules. Assumes nothing.
 use mathlib.Core.Path.{_≡_, refl}
 use mathlib.Core.Bool.{true, false}
 use mathlib.Core.List.{[], _∷_, map}
@@ -6,7 +6,7 @@ use Prim.Native.Nat.{ℕ, _-_, _^_}
 use lib.ListN.{replicate}
 use Rattle.tables.specs.Layout as layout
 use Rattle.tables.specs.Refusal.{given, noSuchClip, number, orRefuse}
-use Rattle.tables.specs.Table.{clipsFit, tagsFit, fits, tagWord, hasFlag}
+use Rattle.tables.specs.Table.{clipsFit, tagsFit, fits, tagWord, stored, tagStored, hasFlag}
 
 -- one record's words hold one record, none hold none, and a count of 2^64 - 1 is no more than any other
 one-clip : map (clipsFit (replicate layout.clipWords 0)) (0 ∷ 1 ∷ 2 ∷ (2 ^ 64 - 1) ∷ []) ≡ true ∷ true ∷ false ∷ false ∷ []
@@ -20,6 +20,11 @@ no-words = refl
 -- the second of two tags, and one that is not there
 tags : map (λ tag. tagWord (1 ∷ 2 ∷ 3 ∷ 4 ∷ 5 ∷ 6 ∷ 7 ∷ 8 ∷ []) tag layout.restEnd) (0 ∷ 1 ∷ 2 ∷ []) ≡ 4 ∷ 8 ∷ 0 ∷ []
 tags = refl
+
+-- stored as the second of two tags, and as a third, for which there is no room
+stores : map (λ tag. tagStored (1 ∷ 2 ∷ 3 ∷ 4 ∷ 5 ∷ 6 ∷ 7 ∷ 8 ∷ 9 ∷ []) tag (0 ∷ 0 ∷ 0 ∷ 0 ∷ [])) (1 ∷ 2 ∷ []) ≡ (1 ∷ 2 ∷ 3 ∷ 4 ∷ 0 ∷ 0 ∷ 0 ∷ 0 ∷ 9 ∷ []) ∷ (1 ∷ 2 ∷ 3 ∷ 4 ∷ 5 ∷ 6 ∷ 7 ∷ 8 ∷ 9 ∷ []) ∷ []
+unfolding stored fits
+stores = refl
 
 -- 11 is 1 + 2 + 8: a range with its offset, and a map without a range
 flags : map (hasFlag 11) (layout.hasRange ∷ layout.hasRangeOffset ∷ layout.hasDiscontinuity ∷ layout.hasMap ∷ layout.hasMapRange ∷ layout.hasMapOffset ∷ []) ≡ true ∷ true ∷ false ∷ true ∷ false ∷ false ∷ []

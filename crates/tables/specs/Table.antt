@@ -1,9 +1,10 @@
--- A lent table of 64-bit words, so many to a record: when a count of records fits, what stands at a place of a record, and "every entry passes".
--- Assumes nothing.
-use mathlib.Core.Bool.{Bool, true, _&&_}
+-- A lent table of 64-bit words, so many to a record: when a count of records fits, what stands at a place of a record, the table after a record is stored,
+-- and "every entry passes". Assumes nothing.
+use mathlib.Core.Bool.{Bool, true, cond, _&&_}
 use mathlib.Core.List.{List}
 use Prim.Native.Nat.{ℕ, zero, suc, _+_, _*_, _/_, _%_}
 use lib.ListN.{length, getD}
+use lib.Seq.{sets}
 use lib.Dec.{leb, eqb}
 use Rattle.tables.specs.Layout as layout
 
@@ -31,6 +32,16 @@ clipWord t k i = wordAt layout.clipWords t k i
 
 abbrev pub tagWord : List ℕ → ℕ → ℕ → ℕ
 tagWord t k i = wordAt layout.tagWords t k i
+
+-- the table with a record's words laid from record k's first word on, where record k fits; else the table as it was
+unfoldable pub stored : ℕ → List ℕ → ℕ → List ℕ → List ℕ
+stored w t k ws = cond (fits w t (k + 1)) (sets t (k * w) ws) t
+
+abbrev pub clipStored : List ℕ → ℕ → List ℕ → List ℕ
+clipStored t k ws = stored layout.clipWords t k ws
+
+abbrev pub tagStored : List ℕ → ℕ → List ℕ → List ℕ
+tagStored t k ws = stored layout.tagWords t k ws
 
 -- a word of flags holds this one: divided by it, the word is odd
 unfoldable pub hasFlag : ℕ → ℕ → Bool

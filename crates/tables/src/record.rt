@@ -2,6 +2,7 @@
 use crate::layout;
 ghost use mathlib.Core.Path.{_≡_};
 ghost use Prim.Native.Nat.{_<_};
+ghost use lib.ListN.{length};
 ghost use Rattle.tables.specs.Table as rule;
 
 // The count is compared with what the table holds: count x width may be above 2^64 - 1.
@@ -48,6 +49,34 @@ pub fn tag_word(words: &[u64], tag: usize, place: usize) -> u64
     ensures { λ r. ⌜ r ≡ rule.tagWord (now (words .entry)) tag place ⌝ }
 {
     word(words, layout::TAG_WORDS, tag, place)
+}
+
+// Lays a record's words into the table, which stays as it is where the record does not fit. The first word's index is computed only where it is in the table.
+fn store(words: &mut [u64], width: usize, index: usize, values: &[u64])
+    requires { ⌜ (0 < width) × (length (now values) ≡ width) ⌝ }
+    ensures { λ _. ⌜ now (words .exit) ≡ rule.stored width (now (words .entry)) index (now (values .entry)) ⌝ }
+{
+    if words.len() / width <= index {
+        return;
+    }
+    let start = index * width;
+    let mut place: usize = 0;
+    while place < width {
+        words[start + place] = values[place];
+        place += 1;
+    }
+}
+
+pub fn store_clip(words: &mut [u64], clip: usize, values: &[u64; layout::CLIP_WORDS])
+    ensures { λ _. ⌜ now (words .exit) ≡ rule.clipStored (now (words .entry)) clip (now (values .entry)) ⌝ }
+{
+    store(words, layout::CLIP_WORDS, clip, values);
+}
+
+pub fn store_tag(words: &mut [u64], tag: usize, values: &[u64; layout::TAG_WORDS])
+    ensures { λ _. ⌜ now (words .exit) ≡ rule.tagStored (now (words .entry)) tag (now (values .entry)) ⌝ }
+{
+    store(words, layout::TAG_WORDS, tag, values);
 }
 
 // Whether a word of flags holds a flag, one of the layout's.

@@ -13,7 +13,7 @@ use Rattle.text.proofs.Laws.{tagged-not, tagged-longer}
 use Rattle.text.proofs.Chain.{alt-skip}
 use Rattle.attributes.specs.ExtMap.{extmap}
 use Rattle.lengths.specs.Duration.{durationTitleTag}
-use Rattle.tags.specs.Tags.{Tag, version, targetDuration, mediaSequence, discontinuitySequence, typed, iFramesOnly, independentSegments, endList, timed, ranged, discontinuity, mapped, ofHead, ofClip, leftOut, marks, unknownTag, commentLine, uriLine, playlistTag, segmentTag, otherTag, mediaSegmentTag, mediaPlaylistTag}
+use Rattle.tags.specs.Tags.{Tag, version, targetDuration, mediaSequence, discontinuitySequence, typed, iFramesOnly, independentSegments, endList, timed, ranged, discontinuity, mapped, ofHead, ofClip, start, key, programDateTime, dateRange, leftOut, marks, unknownTag, commentLine, uriLine, playlistTag, segmentTag, otherTag, mediaSegmentTag, mediaPlaylistTag}
 
 -- where the text does not go on with t, nothing that begins with t is there
 module _ (t text : List ℕ) (at : ℕ) (not-there : tagged t text at ≡ false) where
@@ -35,7 +35,7 @@ module _ (text : List ℕ) (at : ℕ) where
       (alt-skip _ _ _ otherText (after-none t text at not-there (bytes "DISCONTINUITY-SEQUENCE:") (λ x. ofHead (discontinuitySequence x)) number)
       (alt-skip _ _ _ otherText (after-none t text at not-there (bytes "PLAYLIST-TYPE:") (λ x. ofHead (typed x)) playlistType)
       (alt-skip _ _ _ otherText (mark-none t text at not-there (bytes "I-FRAMES-ONLY") (ofHead iFramesOnly))
-      (alt-skip _ _ _ otherText (mark-none t text at not-there (bytes "START:") leftOut)
+      (alt-skip _ _ _ otherText (mark-none t text at not-there (bytes "START:") (leftOut start))
       (alt-skip _ _ _ otherText (mark-none t text at not-there (bytes "INDEPENDENT-SEGMENTS") (ofHead independentSegments))
       (sym (mark-none t text at not-there (bytes "ENDLIST") (ofHead endList))))))))))
 
@@ -47,10 +47,10 @@ module _ (text : List ℕ) (at : ℕ) where
       alt-skip _ _ _ otherText (after-none t text at not-there (bytes "INF:") (λ x. ofClip (timed x)) durationTitleTag)
       (alt-skip _ _ _ otherText (after-none t text at not-there (bytes "-X-BYTERANGE:") (λ x. ofClip (ranged x)) byteRangeVal)
       (alt-skip _ _ _ otherText (mark-none t text at not-there (bytes "-X-DISCONTINUITY") (ofClip discontinuity))
-      (alt-skip _ _ _ otherText (mark-none t text at not-there (bytes "-X-KEY:") leftOut)
+      (alt-skip _ _ _ otherText (mark-none t text at not-there (bytes "-X-KEY:") (leftOut key))
       (alt-skip _ _ _ otherText (after-none t text at not-there (bytes "-X-MAP:") (λ x. ofClip (mapped x)) extmap)
-      (alt-skip _ _ _ otherText (mark-none t text at not-there (bytes "-X-PROGRAM-DATE-TIME:") leftOut)
-      (sym (mark-none t text at not-there (bytes "-X-DATERANGE:") leftOut)))))))
+      (alt-skip _ _ _ otherText (mark-none t text at not-there (bytes "-X-PROGRAM-DATE-TIME:") (leftOut programDateTime))
+      (sym (mark-none t text at not-there (bytes "-X-DATERANGE:") (leftOut dateRange))))))))
 
   -- a byte is there: the tags of the head are tried first
   pub head-first : at < length text → orElse (playlistTag text at) (mediaSegmentTag text at) ≡ mediaPlaylistTag text at

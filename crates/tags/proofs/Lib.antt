@@ -1,9 +1,11 @@
--- alternatives as the code tries them, and their lists
+-- alternatives as the code tries them
 pub mod Tried
 -- how the alternatives begin, and where none but the URI can hold
 pub mod Begins
 -- how far a step goes
 pub mod Takes
+-- which alternative took a tag
+pub mod Numbered
 -- a step with more text before it
 pub mod Local
 -- no second answer fits a contract

@@ -10,7 +10,7 @@ use Rattle.attributes.specs.ExtMap.{extmap}
 use Rattle.attributes.proofs.Local.{mvMap, extmap-local}
 use Rattle.lengths.specs.Duration.{durationTitleTag}
 use Rattle.lengths.proofs.Local.{mvExtinf, duration-title-local}
-use Rattle.tags.specs.Tags.{HeadTag, version, targetDuration, mediaSequence, discontinuitySequence, typed, iFramesOnly, independentSegments, endList, ClipTag, timed, ranged, discontinuity, mapped, Tag, ofHead, ofClip, unknown, comment, uri, leftOut, marks, uriLine, playlistTag, segmentTag, otherTag, mediaSegmentTag, mediaPlaylistTag, Taken, took, step}
+use Rattle.tags.specs.Tags.{HeadTag, version, targetDuration, mediaSequence, discontinuitySequence, typed, iFramesOnly, independentSegments, endList, ClipTag, timed, ranged, discontinuity, mapped, Tag, ofHead, ofClip, unknown, comment, uri, start, key, programDateTime, dateRange, leftOut, marks, uriLine, playlistTag, segmentTag, otherTag, mediaSegmentTag, mediaPlaylistTag, Taken, took, step}
 
 -- ---- how tags move by k places
 abbrev pub mvHead : ℕ → HeadTag → HeadTag
@@ -35,7 +35,7 @@ mvTag k (ofClip t) = ofClip (mvClip k t)
 mvTag k (unknown t) = unknown (mvExt k t)
 mvTag k (comment c) = comment (mvOpt mvSpan k c)
 mvTag k (uri u) = uri (mvSpan k u)
-mvTag k leftOut = leftOut
+mvTag k (leftOut t) = leftOut t
 
 abbrev pub mvTaken : ℕ → Taken → Taken
 mvTaken k (took from t) = took (k + from) (mvTag k t)
@@ -61,7 +61,7 @@ playlist-tag-local pre xs n =
     (alt-moves mvTag _ _ _ _ _ (after-local still (λ x. ofHead (discontinuitySequence x)) number (λ k a. refl) number-local (bytes "#EXT-X-DISCONTINUITY-SEQUENCE:") pre xs n)
     (alt-moves mvTag _ _ _ _ _ (after-local mvType (λ x. ofHead (typed x)) playlistType (λ k a. refl) type-local (bytes "#EXT-X-PLAYLIST-TYPE:") pre xs n)
     (alt-moves mvTag _ _ _ _ _ (mark-local (ofHead iFramesOnly) (λ k. refl) (bytes "#EXT-X-I-FRAMES-ONLY") pre xs n)
-    (alt-moves mvTag _ _ _ _ _ (mark-local leftOut (λ k. refl) (bytes "#EXT-X-START:") pre xs n)
+    (alt-moves mvTag _ _ _ _ _ (mark-local (leftOut start) (λ k. refl) (bytes "#EXT-X-START:") pre xs n)
     (alt-moves mvTag _ _ _ _ _ (mark-local (ofHead independentSegments) (λ k. refl) (bytes "#EXT-X-INDEPENDENT-SEGMENTS") pre xs n)
     (mark-local (ofHead endList) (λ k. refl) (bytes "#EXT-X-ENDLIST") pre xs n))))))))
 
@@ -72,10 +72,10 @@ segment-tag-local pre xs n =
     alt-moves mvTag _ _ _ _ _ (after-local mvExtinf (λ x. ofClip (timed x)) durationTitleTag (λ k a. refl) duration-title-local (bytes "#EXTINF:") pre xs n)
     (alt-moves mvTag _ _ _ _ _ (after-local mvRange (λ x. ofClip (ranged x)) byteRangeVal (λ k a. refl) range-local (bytes "#EXT-X-BYTERANGE:") pre xs n)
     (alt-moves mvTag _ _ _ _ _ (mark-local (ofClip discontinuity) (λ k. refl) (bytes "#EXT-X-DISCONTINUITY") pre xs n)
-    (alt-moves mvTag _ _ _ _ _ (mark-local leftOut (λ k. refl) (bytes "#EXT-X-KEY:") pre xs n)
+    (alt-moves mvTag _ _ _ _ _ (mark-local (leftOut key) (λ k. refl) (bytes "#EXT-X-KEY:") pre xs n)
     (alt-moves mvTag _ _ _ _ _ (after-local mvMap (λ x. ofClip (mapped x)) extmap (λ k a. refl) extmap-local (bytes "#EXT-X-MAP:") pre xs n)
-    (alt-moves mvTag _ _ _ _ _ (mark-local leftOut (λ k. refl) (bytes "#EXT-X-PROGRAM-DATE-TIME:") pre xs n)
-    (mark-local leftOut (λ k. refl) (bytes "#EXT-X-DATERANGE:") pre xs n))))))
+    (alt-moves mvTag _ _ _ _ _ (mark-local (leftOut programDateTime) (λ k. refl) (bytes "#EXT-X-PROGRAM-DATE-TIME:") pre xs n)
+    (mark-local (leftOut dateRange) (λ k. refl) (bytes "#EXT-X-DATERANGE:") pre xs n))))))
 
 -- ---- and what else may stand there
 pub uri-line-local : Local mvTag uriLine

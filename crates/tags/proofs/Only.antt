@@ -9,14 +9,16 @@ use Rattle.tags.specs.declared.HeadTag as headᵈ
 use Rattle.tags.specs.declared.HeadTag.the-variants as headᵛ
 use Rattle.tags.specs.declared.ClipTag as clipᵈ
 use Rattle.tags.specs.declared.ClipTag.the-variants as clipᵛ
+use Rattle.tags.specs.declared.LeftOut as leftᵈ
+use Rattle.tags.specs.declared.LeftOut.the-variants as leftᵛ
 use Rattle.tags.specs.declared.Tag as tagᵈ
 use Rattle.tags.specs.declared.Tag.the-variants as tagᵛ
 use Rattle.tags.specs.declared.TagRes.{TagRes}
 use Rattle.tags.specs.declared.TagRes.the-variants as tagResᵛ
 use Rattle.tags.specs.declared.playlist.NumberRes.{NumberRes}
 use Rattle.tags.specs.declared.playlist.NumberRes.the-variants as numberᵛ
-use Rattle.tags.specs.Tags.{HeadTag, version, targetDuration, mediaSequence, discontinuitySequence, typed, iFramesOnly, independentSegments, endList, ClipTag, timed, ranged, discontinuity, mapped, Tag, ofHead, ofClip, unknown, comment, uri, leftOut}
-use Rattle.tags.specs.Answers.{headTagOf, clipTagOf, tagOf, tagRes, numberRes}
+use Rattle.tags.specs.Tags.{HeadTag, version, targetDuration, mediaSequence, discontinuitySequence, typed, iFramesOnly, independentSegments, endList, ClipTag, timed, ranged, discontinuity, mapped, LeftOut, start, key, programDateTime, dateRange, Tag, ofHead, ofClip, unknown, comment, uri, leftOut}
+use Rattle.tags.specs.Answers.{headTagOf, clipTagOf, leftOutOf, tagOf, tagRes, numberRes}
 
 abbrev pub headBack : HeadTag → headᵈ.HeadTag
 headBack (version v) = headᵛ.Version v
@@ -56,13 +58,25 @@ clip-back (clipᵛ.Mapped m) = ap clipᵛ.Mapped (map-back m)
 pub clip-only : Only clipTagOf
 clip-only = only-by clipTagOf clipBack clip-back
 
+abbrev pub leftOutBack : LeftOut → leftᵈ.LeftOut
+leftOutBack start = leftᵛ.Start
+leftOutBack key = leftᵛ.Key
+leftOutBack programDateTime = leftᵛ.ProgramDateTime
+leftOutBack dateRange = leftᵛ.DateRange
+
+pub left-out-back : (t : leftᵈ.LeftOut) → leftOutBack (leftOutOf t) ≡ t
+left-out-back leftᵛ.Start = refl
+left-out-back leftᵛ.Key = refl
+left-out-back leftᵛ.ProgramDateTime = refl
+left-out-back leftᵛ.DateRange = refl
+
 abbrev pub tagBack : Tag → tagᵈ.Tag
 tagBack (ofHead t) = tagᵛ.Head (headBack t)
 tagBack (ofClip t) = tagᵛ.Clip (clipBack t)
 tagBack (unknown t) = tagᵛ.Unknown (extTagBack t)
 tagBack (comment c) = tagᵛ.Comment (partBack c)
 tagBack (uri u) = tagᵛ.Uri (spanBack u)
-tagBack leftOut = tagᵛ.LeftOut
+tagBack (leftOut t) = tagᵛ.LeftOut (leftOutBack t)
 
 pub tag-back : (t : tagᵈ.Tag) → tagBack (tagOf t) ≡ t
 tag-back (tagᵛ.Head t) = ap tagᵛ.Head (head-back t)
@@ -70,7 +84,7 @@ tag-back (tagᵛ.Clip t) = ap tagᵛ.Clip (clip-back t)
 tag-back (tagᵛ.Unknown t) = ap tagᵛ.Unknown (ext-tag-back t)
 tag-back (tagᵛ.Comment c) = ap tagᵛ.Comment (part-back c)
 tag-back (tagᵛ.Uri u) = refl
-tag-back tagᵛ.LeftOut = refl
+tag-back (tagᵛ.LeftOut t) = ap tagᵛ.LeftOut (left-out-back t)
 
 pub tag-only : Only tagOf
 tag-only = only-by tagOf tagBack tag-back

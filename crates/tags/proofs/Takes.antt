@@ -18,7 +18,7 @@ use Rattle.attributes.specs.ExtMap.{extmap}
 use Rattle.attributes.proofs.Source.{takes-extmap}
 use Rattle.lengths.specs.Duration.{durationTitleTag}
 use Rattle.lengths.proofs.Takes.{takes-duration-title}
-use Rattle.tags.specs.Tags.{version, targetDuration, mediaSequence, discontinuitySequence, typed, iFramesOnly, independentSegments, endList, timed, ranged, discontinuity, mapped, Tag, ofHead, ofClip, unknown, comment, leftOut, marks, unknownTag, commentLine, uriLine, playlistTag, segmentTag, otherTag, mediaSegmentTag, mediaPlaylistTag, took, step}
+use Rattle.tags.specs.Tags.{version, targetDuration, mediaSequence, discontinuitySequence, typed, iFramesOnly, independentSegments, endList, timed, ranged, discontinuity, mapped, Tag, ofHead, ofClip, unknown, comment, start, key, programDateTime, dateRange, leftOut, marks, unknownTag, commentLine, uriLine, playlistTag, segmentTag, otherTag, mediaSegmentTag, mediaPlaylistTag, took, step}
 
 -- a rule behind a fixed text, and a fixed text alone
 module _ (t : List ℕ) (some : 0 < length t) where
@@ -38,7 +38,7 @@ takes-playlist-tag =
     (takes-alt 1 _ _ (takes-after (bytes "#EXT-X-DISCONTINUITY-SEQUENCE:") (omega arith) 1 (λ x. ofHead (discontinuitySequence x)) number takes-number)
     (takes-alt 1 _ _ (takes-after (bytes "#EXT-X-PLAYLIST-TYPE:") (omega arith) 2 (λ x. ofHead (typed x)) playlistType takes-playlist-type)
     (takes-alt 1 _ _ (takes-mark (bytes "#EXT-X-I-FRAMES-ONLY") (omega arith) (ofHead iFramesOnly))
-    (takes-alt 1 _ _ (takes-mark (bytes "#EXT-X-START:") (omega arith) leftOut)
+    (takes-alt 1 _ _ (takes-mark (bytes "#EXT-X-START:") (omega arith) (leftOut start))
     (takes-alt 1 _ _ (takes-mark (bytes "#EXT-X-INDEPENDENT-SEGMENTS") (omega arith) (ofHead independentSegments))
     (takes-mark (bytes "#EXT-X-ENDLIST") (omega arith) (ofHead endList)))))))))
 
@@ -49,10 +49,10 @@ takes-segment-tag =
     takes-alt 1 _ _ (takes-after (bytes "#EXTINF:") (omega arith) 2 (λ x. ofClip (timed x)) durationTitleTag takes-duration-title)
     (takes-alt 1 _ _ (takes-after (bytes "#EXT-X-BYTERANGE:") (omega arith) 1 (λ x. ofClip (ranged x)) byteRangeVal takes-range)
     (takes-alt 1 _ _ (takes-mark (bytes "#EXT-X-DISCONTINUITY") (omega arith) (ofClip discontinuity))
-    (takes-alt 1 _ _ (takes-mark (bytes "#EXT-X-KEY:") (omega arith) leftOut)
+    (takes-alt 1 _ _ (takes-mark (bytes "#EXT-X-KEY:") (omega arith) (leftOut key))
     (takes-alt 1 _ _ (takes-after (bytes "#EXT-X-MAP:") (omega arith) 7 (λ x. ofClip (mapped x)) extmap takes-extmap)
-    (takes-alt 1 _ _ (takes-mark (bytes "#EXT-X-PROGRAM-DATE-TIME:") (omega arith) leftOut)
-    (takes-mark (bytes "#EXT-X-DATERANGE:") (omega arith) leftOut))))))
+    (takes-alt 1 _ _ (takes-mark (bytes "#EXT-X-PROGRAM-DATE-TIME:") (omega arith) (leftOut programDateTime))
+    (takes-mark (bytes "#EXT-X-DATERANGE:") (omega arith) (leftOut dateRange)))))))
 
 -- ---- and what else may stand there: a URI takes a byte only where one is there
 pub takes-unknown : Takes 7 unknownTag

@@ -1,17 +1,14 @@
--- Alternatives as the code tries them: one that fails leaves the answer to those after it, one that holds is the answer. Their lists let a proof say
--- which are left. Assumes nothing.
+-- Alternatives as the code tries them: one that fails leaves the answer to those after it, one that holds is the answer. Assumes nothing.
 use Prim.Native.Nat.{ℕ}
 use mathlib.Core.Path.{_≡_, refl, sym, _∙_, ap}
-use mathlib.Core.List.{List, [], _∷_}
-use Rattle.text.specs.Why.{otherText}
-use Rattle.text.specs.Nom.{Res, fail, ok, Parser, orElse}
+use Rattle.text.specs.Nom.{Res, ok, orElse}
 use Rattle.text.specs.declared.Why as whyᵈ
 use Rattle.text.specs.Answers.{whyOf}
 use Rattle.text.proofs.Chain.{alt-skip, alt-here}
 use Rattle.tags.specs.declared.Tag as tagᵈ
 use Rattle.tags.specs.declared.TagRes.{TagRes}
 use Rattle.tags.specs.declared.TagRes.the-variants as tagResᵛ
-use Rattle.tags.specs.Tags.{Tag, versionTag, targetDurationTag, mediaSequenceTag, discontinuitySequenceTag, playlistTypeTag, iFramesOnlyTag, startTag, independentSegmentsTag, endListTag, extinfLine, byteRangeTag, discontinuityTag, keyTag, mapTag, programDateTimeTag, dateRangeTag}
+use Rattle.tags.specs.Tags.{Tag}
 use Rattle.tags.specs.Answers.{tagOf, tagRes}
 
 pub failed : {r : TagRes} {p q : Res Tag} {why : whyᵈ.Why} → tagRes r ≡ p → r ≡ tagResᵛ.Fail why → q ≡ orElse p q
@@ -19,33 +16,3 @@ failed {r} {p} {q} {why} e h = alt-skip p q q (whyOf why) (sym e ∙ ap tagRes h
 
 pub held : (q : Res Tag) {r : TagRes} {p : Res Tag} {t : tagᵈ.Tag} {n : ℕ} → tagRes r ≡ p → r ≡ tagResᵛ.Ok t n → ok (tagOf t) n ≡ orElse p q
 held q {r} {p} {t} {n} e h = alt-here p q (tagOf t) n (sym e ∙ ap tagRes h)
-
--- the first that holds
-abbrev pub firstOf : List (Parser Tag) → Parser Tag
-firstOf [] text at = fail otherText
-firstOf (p ∷ []) text at = p text at
-firstOf (p ∷ q ∷ ps) text at = orElse (p text at) (firstOf (q ∷ ps) text at)
-
-abbrev pub playlistTags : List (Parser Tag)
-playlistTags =
-    versionTag
-    ∷ targetDurationTag
-    ∷ mediaSequenceTag
-    ∷ discontinuitySequenceTag
-    ∷ playlistTypeTag
-    ∷ iFramesOnlyTag
-    ∷ startTag
-    ∷ independentSegmentsTag
-    ∷ endListTag
-    ∷ []
-
-abbrev pub segmentTags : List (Parser Tag)
-segmentTags =
-    extinfLine
-    ∷ byteRangeTag
-    ∷ discontinuityTag
-    ∷ keyTag
-    ∷ mapTag
-    ∷ programDateTimeTag
-    ∷ dateRangeTag
-    ∷ []

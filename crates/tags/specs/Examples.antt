@@ -1,7 +1,8 @@
 -- Worked examples, by computation: for each alternative a text that it takes and one that it refuses, and what is taken then. Assumes nothing.
+use Prim.Native.Nat.{ℕ}
 use Prim.Native.String.{String}
 use mathlib.Core.Path.{_≡_, refl}
-use mathlib.Core.Option.{none, some}
+use mathlib.Core.Option.{Option, none, some}
 use Rattle.text.specs.Why.{missingByte, loneCr}
 use Rattle.text.specs.Many.{many0, manyTurns}
 use Rattle.text.specs.Nom.{Res, fail, ok, span, bytes, isDigit, begins, tagged, afterTag, run, runEnd, decimal}
@@ -10,7 +11,7 @@ use Rattle.text.specs.BasicTags.{ext, extTag, commentTag, vod, playlistType}
 use Rattle.attributes.specs.Pairs.{quoted, unquoted, keyValuePair, nextPair, keyValuePairs, inserted}
 use Rattle.attributes.specs.ExtMap.{extMap, extmap}
 use Rattle.lengths.specs.Duration.{counted, ns, float, extinf, durationTitleTag}
-use Rattle.tags.specs.Tags.{version, targetDuration, mediaSequence, discontinuitySequence, typed, iFramesOnly, independentSegments, endList, timed, ranged, discontinuity, mapped, Tag, ofHead, ofClip, unknown, comment, uri, leftOut, playlistTag, segmentTag, otherTag, mediaSegmentTag, mediaPlaylistTag, took, step}
+use Rattle.tags.specs.Tags.{version, targetDuration, mediaSequence, discontinuitySequence, typed, iFramesOnly, independentSegments, endList, timed, ranged, discontinuity, mapped, key, Tag, ofHead, ofClip, unknown, comment, uri, leftOut, playlistTag, segmentTag, otherTag, mediaSegmentTag, mediaPlaylistTag, alternativeOf, took, step}
 
 -- what is taken at a text's start
 unfoldable taken : String → Res Tag
@@ -69,7 +70,7 @@ unfolding taken
 of-map = (refl, refl)
 
 -- left out, but only with the colon
-of-key : (taken "#EXT-X-KEY:METHOD=NONE\n" ≡ ok leftOut 11) × (taken "#EXT-X-KEY\n" ≡ ok (unknown (ext (span 5 10) none)) 11)
+of-key : (taken "#EXT-X-KEY:METHOD=NONE\n" ≡ ok (leftOut key) 11) × (taken "#EXT-X-KEY\n" ≡ ok (unknown (ext (span 5 10) none)) 11)
 unfolding taken
 of-key = (refl, refl)
 
@@ -87,7 +88,16 @@ of-uri : (taken "a b \r\n" ≡ ok (uri (span 0 4)) 6) × (taken "a\rb\n" ≡ fai
 unfolding taken
 of-uri = (refl, refl, refl)
 
--- a step drops the blanks after what it took
+-- ---- which alternative took it
+abbrev numberIn : Res Tag → Option ℕ
+numberIn (fail why) = none
+numberIn (ok t n) = some (alternativeOf t)
+
+of-number : (numberIn (taken "#EXT-X-START:\n") ≡ some 6) × (numberIn (taken "#EXTINF:9,\n") ≡ some 9) × (numberIn (taken "#EXTINF:x\n") ≡ some 17)
+unfolding taken
+of-number = (refl, refl, refl)
+
+-- ---- a step drops the blanks after what it took
 of-step : (step (bytes "a\n \t\r\nb") 0 ≡ ok (took 0 (uri (span 0 1))) 6) × (step (bytes "a\n \t\r\nb") 6 ≡ ok (took 6 (uri (span 6 7))) 7)
 unfolding step mediaPlaylistTag playlistTag mediaSegmentTag segmentTag otherTag extTag commentTag consumeLine runEnd run tagged begins
 of-step = (refl, refl)

@@ -39,13 +39,21 @@ pub enum ClipTag {
     Mapped(Map),
 }
 
+// Which of the tags that 01 leaves out.
+pub enum LeftOut {
+    Start,
+    Key,
+    ProgramDateTime,
+    DateRange,
+}
+
 pub enum Tag {
     Head(HeadTag),
     Clip(ClipTag),
     Unknown(ExtTag),
     Comment(Part),
     Uri(Span),
-    LeftOut,
+    LeftOut(LeftOut),
 }
 
 pub enum TagRes {

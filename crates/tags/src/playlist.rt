@@ -1,5 +1,6 @@
 // parser.rs, `media_playlist_tag`: the tags of a playlist's head.
 use crate::HeadTag;
+use crate::LeftOut;
 use crate::Tag;
 use crate::TagRes;
 use crate::marked;
@@ -120,7 +121,8 @@ pub fn playlist_tag(text: &[u8], at: usize) -> TagRes
         TagRes::Ok(t, after) => return TagRes::Ok(t, after),
         TagRes::Fail(_) => {}
     }
-    match marked(text, at, b"#EXT-X-START:", Tag::LeftOut) {
+    let start = Tag::LeftOut(LeftOut::Start);
+    match marked(text, at, b"#EXT-X-START:", start) {
         TagRes::Ok(t, after) => return TagRes::Ok(t, after),
         TagRes::Fail(_) => {}
     }

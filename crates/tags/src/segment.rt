@@ -1,5 +1,6 @@
 // parser.rs, `media_segment_tag`: the tags of a clip.
 use crate::ClipTag;
+use crate::LeftOut;
 use crate::Tag;
 use crate::TagRes;
 use crate::marked;
@@ -77,7 +78,8 @@ pub fn segment_tag(text: &[u8], at: usize) -> TagRes
         TagRes::Ok(t, after) => return TagRes::Ok(t, after),
         TagRes::Fail(_) => {}
     }
-    match marked(text, at, b"#EXT-X-KEY:", Tag::LeftOut) {
+    let key = Tag::LeftOut(LeftOut::Key);
+    match marked(text, at, b"#EXT-X-KEY:", key) {
         TagRes::Ok(t, after) => return TagRes::Ok(t, after),
         TagRes::Fail(_) => {}
     }
@@ -85,9 +87,11 @@ pub fn segment_tag(text: &[u8], at: usize) -> TagRes
         TagRes::Ok(t, after) => return TagRes::Ok(t, after),
         TagRes::Fail(_) => {}
     }
-    match marked(text, at, b"#EXT-X-PROGRAM-DATE-TIME:", Tag::LeftOut) {
+    let date_time = Tag::LeftOut(LeftOut::ProgramDateTime);
+    match marked(text, at, b"#EXT-X-PROGRAM-DATE-TIME:", date_time) {
         TagRes::Ok(t, after) => return TagRes::Ok(t, after),
         TagRes::Fail(_) => {}
     }
-    marked(text, at, b"#EXT-X-DATERANGE:", Tag::LeftOut)
+    let date_range = Tag::LeftOut(LeftOut::DateRange);
+    marked(text, at, b"#EXT-X-DATERANGE:", date_range)
 }

@@ -8,8 +8,11 @@ use native.Mathlib.Omega.{arith}
 use borrow.Author.Needs.{needs}
 use types.Run.{OneOf}
 use denote.Enum.Declared
-use lib.ListN.{length}
+use denote.Ref.{now}
 use lib.Seq.{sets, take-nil}
+use Rattle.tables.specs.Layout.{clipWords, tagWords}
+use Rattle.tables.proofs.Records.{words-fit}
+use Rattle.tables.proofs.Sets.{stored-fits}
 use Rattle.tags.specs.Answers.{tagOf}
 use Rattle.tags.proofs.Tag as tag
 use Rattle.tags.specs.declared.Tag as tagᵈ
@@ -18,7 +21,7 @@ use Rattle.media.specs.declared.state.State as stateᵈ
 use Rattle.media.specs.Assembly.{clipIn, tagIn}
 use Rattle.media.specs.Words.{clipWordsOf, clipsWords, tagsWords}
 use Rattle.media.specs.Answers.{stateSeen}
-use Rattle.media.proofs.Records.{clip-words-length, clips-words-length, clips-words-one, tags-words-one}
+use Rattle.media.proofs.Records.{clips-words-length, clips-words-one, tags-words-one}
 use Rattle.media.proofs.reading.put.Statement.{statement}
 use Rattle.media.proofs.reading.put.Tie as tie
 
@@ -29,7 +32,7 @@ adds-none s (tagᵛ.Clip t) w = (refl, refl)
 adds-none s (tagᵛ.Unknown t) w = absurd (⊎-elim (λ e. omega arith) (⊎-elim (λ e. omega arith) (⊎-elim (λ e. omega arith) (λ e. omega arith))) w)
 adds-none s (tagᵛ.Comment t) w = (refl, refl)
 adds-none s (tagᵛ.Uri t) w = absurd (⊎-elim (λ e. omega arith) (⊎-elim (λ e. omega arith) (⊎-elim (λ e. omega arith) (λ e. omega arith))) w)
-adds-none s tagᵛ.LeftOut w = (refl, refl)
+adds-none s (tagᵛ.LeftOut t) w = (refl, refl)
 
 enum-known-t : tie.Need-enum-known-t
 enum-known-t c = search needs
@@ -40,17 +43,8 @@ clip-requires c κs = search needs
 clip-words-requires : tie.Need-clip-words-requires
 clip-words-requires c κs = search needs
 
-mul-store : tie.Need-mul-store
-mul-store c = search needs
-
-slice-aggregate-store : tie.Need-slice-aggregate-store
-slice-aggregate-store c = search needs
-
-store-requires : tie.Need-store-requires
-store-requires c κs =
-    let p = c .before .before .before in
-    let room = rw (p .before .before .before .t .given .1, clips-words-length) at (p .before .before .before .before .before .before .before .pre .0) in
-    omega (arith, ap length (p .clip-words .ensures) ∙ clip-words-length _, room)
+store-clip-requires : tie.Need-store-clip-requires
+store-clip-requires c κs = search needs
 
 enum-known-t-2 : tie.Need-enum-known-t-2
 enum-known-t-2 c = search needs
@@ -61,14 +55,8 @@ add-met c = search needs
 tag-words-requires : tie.Need-tag-words-requires
 tag-words-requires c κs = search needs
 
-mul-store-2 : tie.Need-mul-store-2
-mul-store-2 c = search needs
-
-slice-aggregate-store-2 : tie.Need-slice-aggregate-store-2
-slice-aggregate-store-2 c = search needs
-
-store-requires-2 : tie.Need-store-requires-2
-store-requires-2 c κs = search needs
+store-tag-requires : tie.Need-store-tag-requires
+store-tag-requires c κs = search needs
 
 same-length : tie.Need-same-length
 same-length c = search needs
@@ -76,9 +64,13 @@ same-length c = search needs
 returns : tie.Need-returns
 unfolding tagsWords
 returns c =
-    let p = c .before .before .before .before .before .before in
-    rw (p .before .before .before .t .given .1, clips-words-one, take-nil)
-    (c .before .before .store .ensures ∙ ap (sets _ _) (p .clip-words .ensures ∙ ap clipWordsOf (p .before .clip .ensures)), refl)
+    let p = c .before .before .before .before .before in
+    let m = p .before .before .before in
+    let a = m .before .before .before .before .args in
+    let room = rw (m .t .given .1, clips-words-length) at (m .before .before .before .before .pre .0) in
+    let fits = words-fit clipWords (a .s .clips + 1) (now (a .clips)) (omega (arith, room)) in
+    rw (m .t .given .1, clips-words-one, take-nil)
+    (c .before .before .store-clip .ensures ∙ stored-fits _ _ _ _ fits ∙ ap (sets _ _) (p .clip-words .ensures ∙ ap clipWordsOf (p .before .clip .ensures)), refl)
 
 same-length-2 : tie.Need-same-length-2
 same-length-2 c = search needs
@@ -87,11 +79,13 @@ returns-2 : tie.Need-returns-2
 unfolding clipsWords
 returns-2 c =
     let q = c .before .before .before .before .before in
-    let a = q .before .before .before .before .before .before .before .before .args in
+    let m = q .before .before .before .before in
+    let a = m .before .before .before .before .args in
     let met = a .s .first + a .s .pending in
     let e : a .kept - met ≡ suc (a .kept - met - 1) = omega (arith, q .before .if1 .taken) in
-    rw (q .before .before .before .before .t2 .given .1, e, take-nil (a .kept - met - 1), tags-words-one)
-    (refl, c .before .before .store2 .ensures ∙ ap (sets _ _) (q .tag-words .ensures))
+    let fits = words-fit tagWords (met + 1) (now (a .tags)) (omega (arith, q .before .if1 .taken, m .before .before .before .before .pre .1)) in
+    rw (m .t2 .given .1, e, take-nil (a .kept - met - 1), tags-words-one)
+    (refl, c .before .before .store-tag .ensures ∙ stored-fits _ _ _ _ fits ∙ ap (sets _ _) (q .tag-words .ensures))
 
 returns-3 : tie.Need-returns-3
 unfolding clipsWords tagsWords
@@ -113,15 +107,11 @@ put-spec =
     enum-known-t
     clip-requires
     clip-words-requires
-    mul-store
-    slice-aggregate-store
-    store-requires
+    store-clip-requires
     enum-known-t-2
     add-met
     tag-words-requires
-    mul-store-2
-    slice-aggregate-store-2
-    store-requires-2
+    store-tag-requires
     same-length
     returns
     same-length-2

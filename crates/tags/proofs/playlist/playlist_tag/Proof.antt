@@ -3,8 +3,8 @@ use Prim.Native.Nat.{ℕ}
 use mathlib.Core.Path.{_≡_, _∙_}
 use lib.ListN.{drop}
 use borrow.Author.Needs.{needs}
-use Rattle.tags.proofs.Tried.{failed, held, firstOf, playlistTags}
-use Rattle.tags.specs.Tags.{playlistTag}
+use Rattle.tags.proofs.Tried.{failed, held}
+use Rattle.tags.specs.Tags.{firstOf, playlistTags, playlistTag}
 use Rattle.tags.proofs.playlist.playlist_tag.Statement.{statement}
 use Rattle.tags.proofs.playlist.playlist_tag.Tie as tie
 

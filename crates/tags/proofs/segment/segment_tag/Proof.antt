@@ -3,8 +3,8 @@ use Prim.Native.Nat.{ℕ}
 use mathlib.Core.Path.{_≡_, _∙_}
 use lib.ListN.{drop}
 use borrow.Author.Needs.{needs}
-use Rattle.tags.proofs.Tried.{failed, held, firstOf, segmentTags}
-use Rattle.tags.specs.Tags.{segmentTag}
+use Rattle.tags.proofs.Tried.{failed, held}
+use Rattle.tags.specs.Tags.{firstOf, segmentTags, segmentTag}
 use Rattle.tags.proofs.segment.segment_tag.Statement.{statement}
 use Rattle.tags.proofs.segment.segment_tag.Tie as tie
 
