@@ -1,7 +1,11 @@
 // Input that is taken bit by bit, through a lent buffer that is filled again where it is used up.
 // A stop holds: once the input stopped, whatever is taken is 0 and nothing is read. So a caller takes all it wants, and asks once.
+ghost use mathlib.Core.Path.{_≡_};
+ghost use mathlib.Core.Bool.{true};
 ghost use Prim.Native.Nat.{_≤_};
 ghost use lib.ListN.{length};
+ghost use Rattle.input.specs.Held.{TakenFrom};
+ghost use Rattle.input.specs.Held as rule;
 
 pub mod whole; // an input that fits into memory, at once
 
@@ -36,10 +40,14 @@ pub struct Filled {
 }
 
 impl Stop {
-    pub fn happened(self) -> bool {
+    pub fn happened(self) -> bool
+        ensures { λ r. ⌜ r ≡ rule.happened self ⌝ }
+    {
         match self {
             Stop::Not => false,
-            _ => true,
+            Stop::Ended => true,
+            Stop::TooLarge => true,
+            Stop::ReadFailed => true,
         }
     }
 }
@@ -64,7 +72,10 @@ impl Input {
 }
 
 // With it a byte read asks no proof that it fits.
-fn wide(byte: u8) -> u64 {
+fn wide(byte: u8) -> u64
+    ensures { λ r. ⌜ r ≡ byte ⌝ }
+    ensures { λ r. ⌜ r ≤ 255 ⌝ }
+{
     byte as u64
 }
 
@@ -98,43 +109,69 @@ fn read_byte(input: Input, fd: i32, buffer: &mut [u8; ROOM]) -> Taken {
     }
 }
 
-pub fn byte(input: Input, fd: i32, buffer: &mut [u8; ROOM]) -> Taken {
-    let at = input.at;
-    let end = input.end;
+// Whether so many bytes of the buffer are still to be taken.
+fn holds(input: Input, count: usize) -> bool
+    ensures { λ r. ⌜ r ≡ rule.holds count input ⌝ }
+{
     let stop = input.stop;
+    if stop.happened() {
+        return false;
+    }
+    if ROOM < input.end {
+        return false;
+    }
+    if input.end < input.at {
+        return false;
+    }
+    count <= input.end - input.at
+}
+
+pub fn byte(input: Input, fd: i32, buffer: &mut [u8; ROOM]) -> Taken
+    ensures { λ r. ⌜ (rule.holds 1 input ≡ true → TakenFrom 1 input (now (buffer .entry)) (now (buffer .exit)) r) ⌝ }
+{
+    let at = input.at;
+    let stop = input.stop;
+    if holds(input, 1) {
+        let value = wide(buffer[at]);
+        let after = at + 1;
+        return Taken {
+            value,
+            rest: Input {
+                at: after,
+                end: input.end,
+                stop,
+            },
+        };
+    }
     if stop.happened() {
         return Taken {
             value: 0,
             rest: input,
         };
     }
-    if at < end {
-        if at < ROOM {
-            return Taken {
-                value: wide(buffer[at]),
-                rest: Input {
-                    at: at + 1,
-                    end,
-                    stop: Stop::Not,
-                },
-            };
-        }
-    }
     read_byte(input, fd, buffer)
+}
+
+// Four bytes of the buffer, the lowest first.
+fn four_at(buffer: &[u8; ROOM], at: usize) -> u64
+    requires { ⌜ at ≤ 65532 ⌝ }
+    ensures { λ r. ⌜ r ≡ rule.numberAt 4 (now (buffer .entry)) at ⌝ }
+    ensures { λ r. ⌜ r ≤ 4294967295 ⌝ }
+{
+    let first = wide(buffer[at]);
+    let second = wide(buffer[at + 1]);
+    let third = wide(buffer[at + 2]);
+    let fourth = wide(buffer[at + 3]);
+    first + second * 256 + third * 65_536 + fourth * 16_777_216
 }
 
 // Eight bytes of the buffer, the lowest first.
 fn number_at(buffer: &[u8; ROOM], at: usize) -> u64
     requires { ⌜ at ≤ 65528 ⌝ }
+    ensures { λ r. ⌜ r ≡ rule.numberAt 8 (now (buffer .entry)) at ⌝ }
 {
-    wide(buffer[at])
-        | wide(buffer[at + 1]) << 8
-        | wide(buffer[at + 2]) << 16
-        | wide(buffer[at + 3]) << 24
-        | wide(buffer[at + 4]) << 32
-        | wide(buffer[at + 5]) << 40
-        | wide(buffer[at + 6]) << 48
-        | wide(buffer[at + 7]) << 56
+    let high = four_at(buffer, at + 4);
+    four_at(buffer, at) + high * 4_294_967_296
 }
 
 // The same byte by byte: a number that goes on in the next piece of the input.
@@ -156,23 +193,22 @@ fn number_by_bytes(input: Input, fd: i32, buffer: &mut [u8; ROOM]) -> Taken {
 }
 
 // A number of 64 bits, its lowest byte first.
-pub fn number(input: Input, fd: i32, buffer: &mut [u8; ROOM]) -> Taken {
+pub fn number(input: Input, fd: i32, buffer: &mut [u8; ROOM]) -> Taken
+    ensures { λ r. ⌜ (rule.holds 8 input ≡ true → TakenFrom 8 input (now (buffer .entry)) (now (buffer .exit)) r) ⌝ }
+{
     let at = input.at;
-    let end = input.end;
     let stop = input.stop;
-    if at < end {
-        if end <= ROOM {
-            if 8 <= end - at {
-                return Taken {
-                    value: number_at(buffer, at),
-                    rest: Input {
-                        at: at + 8,
-                        end,
-                        stop,
-                    },
-                };
-            }
-        }
+    if holds(input, 8) {
+        let value = number_at(buffer, at);
+        let after = at + 8;
+        return Taken {
+            value,
+            rest: Input {
+                at: after,
+                end: input.end,
+                stop,
+            },
+        };
     }
     number_by_bytes(input, fd, buffer)
 }

@@ -31,7 +31,7 @@ use Rattle.media.proofs.Counts.{count-clips}
 use Rattle.media.proofs.Passes.{stepsFrom}
 
 -- ---- the steps' refusals stand before whatever answer follows
-NoneMet : List Taken → Type 0
+pub NoneMet : List Taken → Type 0
 NoneMet [] = Unit
 NoneMet (took at t ∷ ts) = (refusedTag t ≡ none) × NoneMet ts
 
@@ -39,7 +39,7 @@ front-unless : (o : Option Refusal) (at : ℕ) → Front (λ A x. unless o at x)
 front-unless none at = record { on = λ x h. refl; passed = λ x a e. (refl, e); refuses = λ x y f. f }
 front-unless (some r) at = record { on = λ x h. cc; passed = λ x a e. (cc, cc); refuses = λ x y f q k e. cc }
 
-front-met : (ts : List Taken) → Front (λ A x. unlessMet ts x) (NoneMet ts)
+pub front-met : (ts : List Taken) → Front (λ A x. unlessMet ts x) (NoneMet ts)
 unfolding unlessMet NoneMet
 front-met [] = record { on = λ x h. refl; passed = λ x a e. (tt, e); refuses = λ x y f. f }
 front-met (took at t ∷ ts) = front-then _ _ (front-unless (refusedTag t) at) (front-met ts)

@@ -1,16 +1,15 @@
 -- What waits after one byte, after a text byte by byte, and after a number digit by digit. Assumes nothing.
 use mathlib.Core.Path.{_≡_, refl, ap, _∙_}
-use mathlib.Core.Bool.{cond}
 use mathlib.Core.List.{List, [], _∷_, _++_}
-use Prim.Native.Nat.{ℕ, suc, zero, _+_, _-_, _/_, _%_, _^_, _≤_, _<_}
-use native.Mathlib.Nat.{div-lt-iff-lt-mul, pow-suc}
+use Prim.Native.Nat.{ℕ, _+_, _-_, _/_, _%_, _^_, _≤_, _<_}
 use native.Mathlib.Omega.{arith}
 use native.Mathlib.Numerals.{add-one}
-use lib.Dec.{ltb, lit<}
 use lib.ListN.{set, length, drop, take, getD, length-take, drop-of-length-le}
 use lib.Seq.{drop-cons, take-suc-set}
-use borrow.Author.Tests.{lt-ltb, le-ltb, le-leb, lt-leb}
-use Rattle.output.specs.Waiting.{room, withByte, withBytes, part, digits, decimal}
+use borrow.Author.Tests.{lt-ltb, le-leb, lt-leb}
+use Rattle.digits.specs.Digits.{numberText}
+use Rattle.digits.proofs.Number.{number-small, number-more}
+use Rattle.output.specs.Waiting.{room, withByte, withBytes, part}
 
 -- a byte into a buffer that has room, and into a full one
 module _ (l : List ℕ) (at b : ℕ) where
@@ -40,31 +39,15 @@ unfolding withBytes
 bytes-append w [] b = refl
 bytes-append w (x ∷ a) b = bytes-append (withByte w x) a b
 
--- one digit more than is needed changes nothing
-digits-enough : (f n : ℕ) → n < 10 ^ f → digits f n ≡ digits (suc f) n
-unfolding digits
-digits-enough zero n h = rw (lt-ltb n 10 (omega arith))
-digits-enough (suc f) n h =
-    ap (λ l. cond (ltb n 10) [] l ++ (48 + n % 10) ∷ []) (digits-enough f (n / 10) (div-lt-iff-lt-mul (lit< tt) .1 (rw pow-suc at h)))
-
-decimal-one : (n : ℕ) → n < 10 → decimal n ≡ (48 + n) ∷ []
-unfolding digits
-decimal-one n h =
-    let e : n % 10 ≡ n = omega arith in
-    rw (lt-ltb n 10 h, e)
-
-decimal-more : (n : ℕ) → 10 ≤ n → n < 2 ^ 64 → decimal n ≡ decimal (n / 10) ++ (48 + n % 10) ∷ []
-unfolding digits
-decimal-more n h k = rw (le-ltb n 10 h) (ap (λ l. l ++ (48 + n % 10) ∷ []) (digits-enough 19 (n / 10) (omega arith)))
-
 -- a number of one digit; a longer one is its quotient by ten and the last digit
-pub number-one : (w : List ℕ) (n : ℕ) → n < 10 → withByte w (48 + n) ≡ withBytes w (decimal n)
-unfolding withBytes
-number-one w n h = rw (decimal-one n h)
+module _ (w : List ℕ) (n : ℕ) where
+  pub put-small : n < 10 → withByte w (48 + n) ≡ withBytes w (numberText n)
+  unfolding withBytes
+  put-small h = rw (number-small n h)
 
-pub number-more : (w : List ℕ) (n : ℕ) → 10 ≤ n → n < 2 ^ 64 → withByte (withBytes w (decimal (n / 10))) (48 + n % 10) ≡ withBytes w (decimal n)
-unfolding withBytes
-number-more w n h k = rw (decimal-more n h k, bytes-append w (decimal (n / 10)) ((48 + n % 10) ∷ []))
+  pub put-more : 10 ≤ n → n < 2 ^ 64 → withByte (withBytes w (numberText (n / 10))) (48 + n % 10) ≡ withBytes w (numberText n)
+  unfolding withBytes
+  put-more h k = rw (number-more n h k, bytes-append w (numberText (n / 10)) ((48 + n % 10) ∷ []))
 
 -- a part that is there, and two that are not
 module _ (text : List ℕ) (start end : ℕ) where

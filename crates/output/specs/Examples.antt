@@ -1,18 +1,9 @@
--- Numbers, parts and a full buffer by computation over the rules. Assumes nothing.
+-- Parts and a full buffer by computation over the rules. Assumes nothing.
 use mathlib.Core.Path.{_≡_, refl}
 use mathlib.Core.List.{[], _∷_, map}
-use Prim.Native.Nat.{_-_, _^_}
+use Prim.Native.Nat.{_-_}
 use lib.ListN.{length, replicate}
-use Rattle.output.specs.Waiting.{room, withByte, part, digits, decimal}
-
--- 0, 10 and 907; the largest number has twenty digits
-numbers : map decimal (0 ∷ 10 ∷ 907 ∷ []) ≡ (48 ∷ []) ∷ (49 ∷ 48 ∷ []) ∷ (57 ∷ 48 ∷ 55 ∷ []) ∷ []
-unfolding digits
-numbers = refl
-
-largest : length (decimal (2 ^ 64 - 1)) ≡ 20
-unfolding digits
-largest = refl
+use Rattle.output.specs.Waiting.{room, withByte, part}
 
 -- two bytes of five; an end past the text, and a start past the end, are no part
 parts : map (part (1 ∷ 2 ∷ 3 ∷ 4 ∷ 5 ∷ []) 1) (3 ∷ 6 ∷ 0 ∷ []) ≡ (2 ∷ 3 ∷ []) ∷ [] ∷ [] ∷ []

@@ -1,4 +1,4 @@
--- what waits after a byte, after a text, after a number
+-- what waits after a byte and after a text
 pub mod Waiting
--- the digits of numbers and the parts of texts by computation
+-- the parts of texts and a full buffer by computation
 pub mod Examples

@@ -1,7 +1,7 @@
 -- What waits in an output buffer, byte for byte. Assumes nothing.
 use mathlib.Core.Bool.{cond, _&&_}
 use mathlib.Core.List.{List, [], _∷_, _++_}
-use Prim.Native.Nat.{ℕ, suc, zero, _+_, _-_, _/_, _%_}
+use Prim.Native.Nat.{ℕ, _-_}
 use lib.Dec.{ltb, leb}
 use lib.ListN.{length, take, drop}
 
@@ -19,12 +19,3 @@ withBytes waits (b ∷ bs) = withBytes (withByte waits b) bs
 -- the bytes from start to end, none where the text has no such part
 unfoldable pub part : List ℕ → ℕ → ℕ → List ℕ
 part text start end = cond (leb end (length text) && leb start end) (take (end - start) (drop start text)) []
-
--- the digits of n, with at most f of them before the last
-unfoldable pub digits : ℕ → ℕ → List ℕ
-digits zero n = (48 + n % 10) ∷ []
-digits (suc f) n = cond (ltb n 10) [] (digits f (n / 10)) ++ (48 + n % 10) ∷ []
-
--- a 64-bit number has at most twenty digits
-abbrev pub decimal : ℕ → List ℕ
-decimal n = digits 20 n

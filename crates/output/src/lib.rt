@@ -3,6 +3,7 @@
 ghost use mathlib.Core.Path.{_≡_};
 ghost use Prim.Native.Nat.{_≤_, _<_};
 ghost use lib.ListN.{length, take, set};
+ghost use Rattle.digits.specs.Digits.{numberText};
 ghost use Rattle.output.specs.Waiting as rule;
 
 // What a buffer holds.
@@ -80,7 +81,7 @@ pub fn put_part(
 // A number in decimal: first its quotient by ten, then its last digit.
 pub fn put_number(fd: i32, buffer: &mut [u8; ROOM], waits: usize, number: u64) -> usize
     ensures fits { λ r. ⌜ r ≤ rule.room ⌝ }
-    ensures waiting { λ r. ⌜ take r (now (buffer .exit)) ≡ rule.withBytes (take waits (now (buffer .entry))) (rule.decimal number) ⌝ }
+    ensures waiting { λ r. ⌜ take r (now (buffer .exit)) ≡ rule.withBytes (take waits (now (buffer .entry))) (numberText number) ⌝ }
 {
     if number < 10 {
         return put_byte(fd, buffer, waits, (48 + number) as u8);

@@ -1,8 +1,9 @@
-// For each op: its arguments, the call with exactly that memory, its line. A record that is cut off or too large makes no call.
+// For each op: its arguments, the call of the face with exactly that memory, its line. A record that is cut off or too large makes no call.
 use crate::State;
 use crate::lines;
-use clock::turns;
 use input::Input;
+use input::Taken;
+use ledgerfern::Head;
 use libc::STDIN_FILENO;
 ghost use Prim.Native.Nat.{_≤_};
 ghost use lib.ListN.{length};
@@ -15,13 +16,13 @@ pub fn verdict(
 ) -> State {
     let waits = s.waits;
     let bytes = input::bytes(s.input, STDIN_FILENO, from, text);
-    let input = bytes.rest;
     let length = bytes.count;
+    let input = bytes.rest;
     let stop = input.stop;
     if stop.happened() {
         return State { input, waits };
     }
-    let given = verdict::is_master_playlist(&text[0..length]);
+    let given = ledgerfern::ledgerfern_verdict(&text[0..length]);
     let waits = lines::verdict(to, waits, given);
     State { input, waits }
 }
@@ -34,7 +35,7 @@ fn read_and_print(
     clips: &mut [u64],
     tags: &mut [u64],
 ) -> usize {
-    let given = media::parse_media_playlist(text, clips, tags);
+    let given = ledgerfern::ledgerfern_read(text, clips, tags);
     lines::reader(to, waits, given, clips, tags)
 }
 
@@ -68,69 +69,163 @@ pub fn reader(
     State { input, waits }
 }
 
-pub fn total(
-    s: State,
-    from: &mut [u8; input::ROOM],
-    to: &mut [u8; output::ROOM],
-    clips: &mut [u64],
-) -> State {
-    let waits = s.waits;
-    let count = input::number(s.input, STDIN_FILENO, from);
-    let words = input::numbers(count.rest, STDIN_FILENO, from, clips);
-    let end = words.count;
-    let input = words.rest;
-    let stop = input.stop;
-    if stop.happened() {
-        return State { input, waits };
-    }
-    let given = clock::total(&clips[0..end], count.value as usize);
-    let waits = lines::clock(to, waits, 4, given);
-    State { input, waits }
-}
-
-pub fn window(
-    s: State,
-    from: &mut [u8; input::ROOM],
-    to: &mut [u8; output::ROOM],
-    clips: &mut [u64],
-) -> State {
-    let waits = s.waits;
-    let count = input::number(s.input, STDIN_FILENO, from);
-    let words = input::numbers(count.rest, STDIN_FILENO, from, clips);
-    let end = words.count;
-    let clip = input::number(words.rest, STDIN_FILENO, from);
-    let input = clip.rest;
-    let stop = input.stop;
-    if stop.happened() {
-        return State { input, waits };
-    }
-    let given = window::window(&clips[0..end], count.value as usize, clip.value as usize);
-    let waits = lines::window(to, waits, given);
-    State { input, waits }
-}
-
-// What ops 5 and 7 are called with: how many clips and words, the rate, the turn, the clip; and the input after them.
-struct Moment {
-    clips: usize,
+// A table as a record has it: how many entries it is said to hold, and how many words are lent; and the input after it.
+struct Table {
+    entries: usize,
     words: usize,
+    input: Input,
+}
+
+fn take_table(input: Input, from: &mut [u8; input::ROOM], words: &mut [u64]) -> Table
+    ensures { λ r. ⌜ r .words ≤ length (now (words .exit)) ⌝ }
+{
+    let entries = input::number(input, STDIN_FILENO, from);
+    let filled = input::numbers(entries.rest, STDIN_FILENO, from, words);
+    let input = filled.rest;
+    Table {
+        entries: entries.value as usize,
+        words: filled.count,
+        input,
+    }
+}
+
+// A head as a record has it, whatever its numbers are; and the input after it.
+struct TakenHead {
+    head: Head,
+    input: Input,
+}
+
+fn take_head(input: Input, from: &mut [u8; input::ROOM]) -> TakenHead {
+    let version_present = input::number(input, STDIN_FILENO, from);
+    let version = input::number(version_present.rest, STDIN_FILENO, from);
+    let target_duration = input::number(version.rest, STDIN_FILENO, from);
+    let media_sequence = input::number(target_duration.rest, STDIN_FILENO, from);
+    let discontinuity_sequence = input::number(media_sequence.rest, STDIN_FILENO, from);
+    let playlist_type = input::number(discontinuity_sequence.rest, STDIN_FILENO, from);
+    let type_start = input::number(playlist_type.rest, STDIN_FILENO, from);
+    let type_end = input::number(type_start.rest, STDIN_FILENO, from);
+    let end_list = input::number(type_end.rest, STDIN_FILENO, from);
+    let i_frames_only = input::number(end_list.rest, STDIN_FILENO, from);
+    let independent_segments = input::number(i_frames_only.rest, STDIN_FILENO, from);
+    let input = independent_segments.rest;
+    let head = Head {
+        version_present: version_present.value,
+        version: version.value,
+        target_duration: target_duration.value,
+        media_sequence: media_sequence.value,
+        discontinuity_sequence: discontinuity_sequence.value,
+        playlist_type: playlist_type.value,
+        type_start: type_start.value,
+        type_end: type_end.value,
+        end_list: end_list.value,
+        i_frames_only: i_frames_only.value,
+        independent_segments: independent_segments.value,
+    };
+    TakenHead { head, input }
+}
+
+// The output is printed as the call leaves it.
+fn write_and_print(
+    to: &mut [u8; output::ROOM],
+    waits: usize,
+    text: &[u8],
+    head: Head,
+    clips: usize,
+    clip_words: &[u64],
+    tags: usize,
+    tag_words: &[u64],
+    out: &mut [u8],
+) -> usize {
+    let given = ledgerfern::ledgerfern_write(text, head, clips, clip_words, tags, tag_words, out);
+    lines::writer(to, waits, given, out)
+}
+
+// Behind the text: the head, both tables, the output.
+fn write_text(
+    s: State,
+    from: &mut [u8; input::ROOM],
+    to: &mut [u8; output::ROOM],
+    text: &[u8],
+    clips: &mut [u64],
+    tags: &mut [u64],
+    out: &mut [u8],
+) -> State {
+    let waits = s.waits;
+    let head = take_head(s.input, from);
+    let h = head.head;
+    let clip_table = take_table(head.input, from, clips);
+    let clip_end = clip_table.words;
+    let tag_table = take_table(clip_table.input, from, tags);
+    let tag_end = tag_table.words;
+    let room = input::bytes(tag_table.input, STDIN_FILENO, from, out);
+    let room_end = room.count;
+    let input = room.rest;
+    let stop = input.stop;
+    if stop.happened() {
+        return State { input, waits };
+    }
+    let waits = write_and_print(
+        to,
+        waits,
+        text,
+        h,
+        clip_table.entries,
+        &clips[0..clip_end],
+        tag_table.entries,
+        &tags[0..tag_end],
+        &mut out[0..room_end],
+    );
+    State { input, waits }
+}
+
+pub fn writer(
+    s: State,
+    from: &mut [u8; input::ROOM],
+    to: &mut [u8; output::ROOM],
+    text: &mut [u8],
+    clips: &mut [u64],
+    tags: &mut [u64],
+    out: &mut [u8],
+) -> State {
+    let waits = s.waits;
+    let bytes = input::bytes(s.input, STDIN_FILENO, from, text);
+    let length = bytes.count;
+    let input = bytes.rest;
+    let next = State { input, waits };
+    write_text(next, from, to, &text[0..length], clips, tags, out)
+}
+
+// What follows the table in a record of ops 4 to 7, and the input after it. What an op does not have is 0.
+struct Moment {
     rate: u64,
     turn: u64,
     clip: usize,
     input: Input,
 }
 
-fn take_moment(input: Input, from: &mut [u8; input::ROOM], clips: &mut [u64]) -> Moment
-    ensures { λ r. ⌜ r .words ≤ length (now (clips .exit)) ⌝ }
-{
-    let count = input::number(input, STDIN_FILENO, from);
-    let words = input::numbers(count.rest, STDIN_FILENO, from, clips);
-    let rate = input::number(words.rest, STDIN_FILENO, from);
-    let turn = input::number(rate.rest, STDIN_FILENO, from);
-    let clip = input::number(turn.rest, STDIN_FILENO, from);
+fn take_if(there: bool, input: Input, from: &mut [u8; input::ROOM]) -> Taken {
+    if there {
+        return input::number(input, STDIN_FILENO, from);
+    }
+    Taken {
+        value: 0,
+        rest: input,
+    }
+}
+
+fn has_turn(op: u64) -> bool {
+    match op {
+        5 | 7 => true,
+        _ => false,
+    }
+}
+
+fn take_moment(op: u64, input: Input, from: &mut [u8; input::ROOM]) -> Moment {
+    let rate = take_if(has_turn(op), input, from);
+    let turn = take_if(has_turn(op), rate.rest, from);
+    let clip = take_if(op != 4, turn.rest, from);
     let input = clip.rest;
     Moment {
-        clips: count.value as usize,
-        words: words.count,
         rate: rate.value,
         turn: turn.value,
         clip: clip.value as usize,
@@ -138,40 +233,43 @@ fn take_moment(input: Input, from: &mut [u8; input::ROOM], clips: &mut [u64]) ->
     }
 }
 
-pub fn start_tick(
-    s: State,
-    from: &mut [u8; input::ROOM],
+fn call_and_print(
+    op: u64,
     to: &mut [u8; output::ROOM],
-    clips: &mut [u64],
-) -> State {
-    let waits = s.waits;
-    let m = take_moment(s.input, from, clips);
-    let words = m.words;
-    let input = m.input;
-    let stop = input.stop;
-    if stop.happened() {
-        return State { input, waits };
-    }
-    let given = turns::start_tick(&clips[0..words], m.clips, m.rate, m.turn, m.clip);
-    let waits = lines::clock(to, waits, 5, given);
-    State { input, waits }
+    waits: usize,
+    clips: usize,
+    words: &[u64],
+    m: Moment,
+) -> usize {
+    let given = match op {
+        4 => ledgerfern::ledgerfern_total(clips, words),
+        5 => ledgerfern::ledgerfern_start_tick(clips, words, m.rate, m.turn, m.clip),
+        7 => ledgerfern::ledgerfern_clip_ticks(clips, words, m.rate, m.turn, m.clip),
+        _ => {
+            let given = ledgerfern::ledgerfern_window(clips, words, m.clip);
+            return lines::window(to, waits, given);
+        }
+    };
+    lines::value(to, waits, op, given)
 }
 
-pub fn clip_ticks(
+// Ops 4 to 7, the calls over a table of clips.
+pub fn over_clips(
+    op: u64,
     s: State,
     from: &mut [u8; input::ROOM],
     to: &mut [u8; output::ROOM],
     clips: &mut [u64],
 ) -> State {
     let waits = s.waits;
-    let m = take_moment(s.input, from, clips);
-    let words = m.words;
+    let table = take_table(s.input, from, clips);
+    let words = table.words;
+    let m = take_moment(op, table.input, from);
     let input = m.input;
     let stop = input.stop;
     if stop.happened() {
         return State { input, waits };
     }
-    let given = turns::clip_ticks(&clips[0..words], m.clips, m.rate, m.turn, m.clip);
-    let waits = lines::clock(to, waits, 7, given);
+    let waits = call_and_print(op, to, waits, table.entries, &clips[0..words], m);
     State { input, waits }
 }

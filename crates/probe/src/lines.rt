@@ -1,14 +1,13 @@
 // What is printed. A line begins with op, number and place; a refused call has zeros for all that follows but the lent memory.
 use input::Stop;
+use ledgerfern::Head;
+use ledgerfern::Read;
+use ledgerfern::Value;
+use ledgerfern::Verdict;
+use ledgerfern::Window;
+use ledgerfern::Written;
 use libc::STDOUT_FILENO;
-use media::ParseAnswer;
-use media::Read;
-use media::head::Head;
-use media::head::HeadType;
-use media::head::Version;
 use output::ROOM;
-use text::basic_tags::PlaylistType;
-use verdict::MasterAnswer;
 
 pub fn text(to: &mut [u8; ROOM], waits: usize, bytes: &[u8]) -> usize {
     output::put_bytes(STDOUT_FILENO, to, waits, bytes)
@@ -53,106 +52,92 @@ fn answer(
     waits: usize,
     op: u64,
     number: u64,
-    place: usize,
+    place: u64,
     values: &[u64],
 ) -> usize {
     let waits = output::put_number(STDOUT_FILENO, to, waits, op);
     let waits = field(to, waits, number);
-    let waits = field(to, waits, place as u64);
+    let waits = field(to, waits, place);
     fields(to, waits, values)
 }
 
-fn mark(holds: bool) -> u64 {
-    if holds { 1 } else { 0 }
-}
-
-pub fn verdict(to: &mut [u8; ROOM], waits: usize, given: MasterAnswer) -> usize {
-    let waits = match given {
-        MasterAnswer::Refused(r, place) => answer(to, waits, 1, r.number(), place, &[0]),
-        MasterAnswer::Given(master) => answer(to, waits, 1, 0, 0, &[mark(master)]),
-    };
+pub fn verdict(to: &mut [u8; ROOM], waits: usize, r: Verdict) -> usize {
+    let waits = answer(to, waits, 1, r.number, r.place, &[r.master]);
     end_line(to, waits)
 }
 
-// An answer of the clock, whose refusals have no place.
-pub fn clock(to: &mut [u8; ROOM], waits: usize, op: u64, given: clock::Answer) -> usize {
-    let waits = match given {
-        clock::Answer::Refused(r) => answer(to, waits, op, r.number(), 0, &[0]),
-        clock::Answer::Given(value) => answer(to, waits, op, 0, 0, &[value]),
-    };
+pub fn value(to: &mut [u8; ROOM], waits: usize, op: u64, r: Value) -> usize {
+    let waits = answer(to, waits, op, r.number, r.place, &[r.value]);
     end_line(to, waits)
 }
 
-pub fn window(to: &mut [u8; ROOM], waits: usize, given: window::Answer) -> usize {
-    let waits = match given {
-        window::Answer::Refused(r) => answer(to, waits, 6, r.number(), 0, &[0, 0, 0]),
-        window::Answer::None => answer(to, waits, 6, 0, 0, &[0, 0, 0]),
-        window::Answer::Range { start, end } => answer(to, waits, 6, 0, 0, &[1, start, end]),
-    };
+pub fn window(to: &mut [u8; ROOM], waits: usize, r: Window) -> usize {
+    let waits = answer(
+        to,
+        waits,
+        6,
+        r.number,
+        r.place,
+        &[r.present, r.start, r.end],
+    );
     end_line(to, waits)
 }
 
-// The type's number, and the span of a type that is another text.
-fn type_numbers(t: HeadType) -> [u64; 3] {
-    match t {
-        HeadType::Absent => [0, 0, 0],
-        HeadType::Is(t) => match t {
-            PlaylistType::Event => [1, 0, 0],
-            PlaylistType::Vod => [2, 0, 0],
-            PlaylistType::Other(span) => [3, span.start as u64, span.end as u64],
-        },
-    }
-}
-
-// Whether there is a version, and the version.
-fn version_numbers(v: Version) -> [u64; 2] {
-    match v {
-        Version::Absent => [0, 0],
-        Version::Is(v) => [1, v],
-    }
-}
-
-// The head's eleven numbers.
-fn head_numbers(h: Head) -> [u64; 11] {
-    let version = h.version;
-    let version = version_numbers(version);
-    let playlist_type = h.playlist_type;
-    let playlist_type = type_numbers(playlist_type);
-    [
-        version[0],
-        version[1],
+fn head(to: &mut [u8; ROOM], waits: usize, h: Head) -> usize {
+    let numbers = [
+        h.version_present,
+        h.version,
         h.target_duration,
         h.media_sequence,
         h.discontinuity_sequence,
-        playlist_type[0],
-        playlist_type[1],
-        playlist_type[2],
-        mark(h.end_list),
-        mark(h.i_frames_only),
-        mark(h.independent_segments),
-    ]
-}
-
-fn read(to: &mut [u8; ROOM], waits: usize, given: Read) -> usize {
-    let counts = [given.clips as u64, given.tags as u64, given.stop as u64];
-    let waits = answer(to, waits, 2, 0, 0, &counts);
-    let head = given.head;
-    fields(to, waits, &head_numbers(head))
+        h.playlist_type,
+        h.type_start,
+        h.type_end,
+        h.end_list,
+        h.i_frames_only,
+        h.independent_segments,
+    ];
+    fields(to, waits, &numbers)
 }
 
 // The answer of the reader, and both tables as the call left them.
-pub fn reader(
-    to: &mut [u8; ROOM],
-    waits: usize,
-    given: ParseAnswer,
-    clips: &[u64],
-    tags: &[u64],
-) -> usize {
-    let waits = match given {
-        ParseAnswer::Refused(r, place) => answer(to, waits, 2, r.number(), place, &[0; 14]),
-        ParseAnswer::Given(given) => read(to, waits, given),
-    };
+pub fn reader(to: &mut [u8; ROOM], waits: usize, r: Read, clips: &[u64], tags: &[u64]) -> usize {
+    let waits = answer(to, waits, 2, r.number, r.place, &[r.clips, r.tags, r.stop]);
+    let h = r.head;
+    let waits = head(to, waits, h);
     let waits = words(to, waits, clips);
     let waits = words(to, waits, tags);
+    end_line(to, waits)
+}
+
+fn hex_digit(n: u8) -> u8 {
+    match n {
+        0..=9 => b'0' + n,
+        10..=15 => b'a' + (n - 10),
+        _ => b'?',
+    }
+}
+
+// In lower-case hex.
+fn hex(to: &mut [u8; ROOM], waits: usize, bytes: &[u8]) -> usize {
+    let mut waits = waits;
+    let mut k = 0usize;
+    while k < bytes.len() {
+        waits = output::put_byte(STDOUT_FILENO, to, waits, hex_digit(bytes[k] / 16));
+        waits = output::put_byte(STDOUT_FILENO, to, waits, hex_digit(bytes[k] % 16));
+        k += 1;
+    }
+    waits
+}
+
+// The answer of the writer, and the output as the call left it.
+pub fn writer(to: &mut [u8; ROOM], waits: usize, r: Written, out: &[u8]) -> usize {
+    let waits = answer(to, waits, 3, r.number, r.place, &[r.length]);
+    let waits = text(to, waits, b" | ");
+    let waits = if out.len() == 0 {
+        text(to, waits, b"-")
+    } else {
+        hex(to, waits, out)
+    };
     end_line(to, waits)
 }

@@ -1,13 +1,13 @@
-// Runs the library's public calls on binary records from standard input, and prints a line for each: the whole answer and the lent memory.
+// Makes the library's calls (crate `ledgerfern`) on binary records from standard input, and prints a line for each: the whole answer and the lent memory.
 // It decodes, calls and prints, and knows no rule of a playlist. A record is its op, a byte, and then the call's arguments:
 //   1 verdict             text
 //   2 reader              text, clip words, tag words
+//   3 writer              text, the head's eleven numbers, number of clips, clip words, number of tags, tag words, output
 //   4 total               number of clips, clip words
 //   5 start tick          number of clips, clip words, rate, turn, clip
 //   6 window              number of clips, clip words, clip
 //   7 ticks of a clip     as 5
 // A number has eight bytes, the lowest first; a text or words are their count, a number, and then so many bytes or numbers.
-// Op 3, the writer, comes with the writer: until then it is unknown.
 use input::Input;
 use input::Stop;
 use libc::STDIN_FILENO;
@@ -51,14 +51,13 @@ fn call(
     text: &mut [u8; TEXT_ROOM],
     clips: &mut [u64; WORD_ROOM],
     tags: &mut [u64; WORD_ROOM],
+    out: &mut [u8; TEXT_ROOM],
 ) -> Step {
     let next = match op {
         1 => calls::verdict(s, from, to, text),
         2 => calls::reader(s, from, to, text, clips, tags),
-        4 => calls::total(s, from, to, clips),
-        5 => calls::start_tick(s, from, to, clips),
-        6 => calls::window(s, from, to, clips),
-        7 => calls::clip_ticks(s, from, to, clips),
+        3 => calls::writer(s, from, to, text, clips, tags, out),
+        4..=7 => calls::over_clips(op, s, from, to, clips),
         _ => return Step::Last(lines::text(to, s.waits, b"unknown op\n")),
     };
     after_record(next, to)
@@ -72,6 +71,7 @@ fn next_record(
     text: &mut [u8; TEXT_ROOM],
     clips: &mut [u64; WORD_ROOM],
     tags: &mut [u64; WORD_ROOM],
+    out: &mut [u8; TEXT_ROOM],
 ) -> Step {
     let waits = s.waits;
     let op = input::byte(s.input, STDIN_FILENO, from);
@@ -86,6 +86,7 @@ fn next_record(
             text,
             clips,
             tags,
+            out,
         ),
         Stop::Ended => Step::Last(lines::text(to, waits, b"end\n")),
         _ => Step::Last(lines::stopped(to, waits, stop)),
@@ -99,6 +100,7 @@ fn run(
     text: &mut [u8; TEXT_ROOM],
     clips: &mut [u64; WORD_ROOM],
     tags: &mut [u64; WORD_ROOM],
+    out: &mut [u8; TEXT_ROOM],
 ) -> usize {
     let mut s = State {
         input: Input::new(),
@@ -106,7 +108,7 @@ fn run(
     };
     let mut records = u64::MAX;
     while records > 0 {
-        match next_record(s, from, to, text, clips, tags) {
+        match next_record(s, from, to, text, clips, tags, out) {
             Step::Next(next) => s = next,
             Step::Last(waits) => return waits,
         }
@@ -121,7 +123,15 @@ fn main() {
     let mut text = [0u8; TEXT_ROOM];
     let mut clips = [0u64; WORD_ROOM];
     let mut tags = [0u64; WORD_ROOM];
-    let waits = run(&mut from, &mut to, &mut text, &mut clips, &mut tags);
+    let mut out = [0u8; TEXT_ROOM];
+    let waits = run(
+        &mut from,
+        &mut to,
+        &mut text,
+        &mut clips,
+        &mut tags,
+        &mut out,
+    );
     // Whether it went needs no word: a reader that finds no last line knows.
     output::flush(STDOUT_FILENO, &to, waits);
 }

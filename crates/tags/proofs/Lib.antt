@@ -1,5 +1,7 @@
 -- alternatives as the code tries them
 pub mod Tried
+-- which tags can hold at all, by one byte of theirs
+pub mod Letters
 -- how the alternatives begin, and where none but the URI can hold
 pub mod Begins
 -- how far a step goes

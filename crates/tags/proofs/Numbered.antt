@@ -14,14 +14,11 @@ use Rattle.text.specs.Util.{consumeLine}
 use Rattle.text.specs.BasicTags.{extTag, commentTag}
 use Rattle.text.proofs.Takes.{bind-ok}
 use Rattle.tags.specs.Tags.{version, targetDuration, mediaSequence, discontinuitySequence, typed, iFramesOnly, independentSegments, endList, timed, ranged, discontinuity, mapped, start, key, programDateTime, dateRange, Tag, ofHead, ofClip, unknown, comment, uri, leftOut, marks, firstOf, playlistTags, playlistTag, segmentTags, segmentTag, otherTags, otherTag, mediaSegmentTag, mediaPlaylistTag, knownTags, alternatives, alternativeOf}
+use Rattle.tags.proofs.Tried.{or-assoc}
 use Rattle.tags.proofs.Begins.{head-first}
 use Rattle.tags.proofs.Takes.{takes-media-playlist-tag}
 
 -- ---- the step's rule is the first alternative that holds
-or-assoc : {A : Type 0} (r p q : Res A) → orElse r (orElse p q) ≡ orElse (orElse r p) q
-or-assoc (fail why) p q = refl
-or-assoc (ok a n) p q = refl
-
 module _ (text : List ℕ) (at : ℕ) where
   first-append : (ps qs : List (Parser Tag)) → 0 < length ps → 0 < length qs → orElse (firstOf ps text at) (firstOf qs text at) ≡ firstOf (ps ++ qs) text at
   first-append [] qs a b = absurd (omega arith)

@@ -1,7 +1,8 @@
 -- Alternatives as the code tries them: one that fails leaves the answer to those after it, one that holds is the answer. Assumes nothing.
 use Prim.Native.Nat.{ℕ}
 use mathlib.Core.Path.{_≡_, refl, sym, _∙_, ap}
-use Rattle.text.specs.Nom.{Res, ok, orElse}
+use Rattle.text.specs.Why.{otherText}
+use Rattle.text.specs.Nom.{Res, fail, ok, orElse}
 use Rattle.text.specs.declared.Why as whyᵈ
 use Rattle.text.specs.Answers.{whyOf}
 use Rattle.text.proofs.Chain.{alt-skip, alt-here}
@@ -11,8 +12,24 @@ use Rattle.tags.specs.declared.TagRes.the-variants as tagResᵛ
 use Rattle.tags.specs.Tags.{Tag}
 use Rattle.tags.specs.Answers.{tagOf, tagRes}
 
+pub or-assoc : {A : Type 0} (r p q : Res A) → orElse r (orElse p q) ≡ orElse (orElse r p) q
+or-assoc (fail why) p q = refl
+or-assoc (ok a n) p q = refl
+
 pub failed : {r : TagRes} {p q : Res Tag} {why : whyᵈ.Why} → tagRes r ≡ p → r ≡ tagResᵛ.Fail why → q ≡ orElse p q
 failed {r} {p} {q} {why} e h = alt-skip p q q (whyOf why) (sym e ∙ ap tagRes h) refl
 
 pub held : (q : Res Tag) {r : TagRes} {p : Res Tag} {t : tagᵈ.Tag} {n : ℕ} → tagRes r ≡ p → r ≡ tagResᵛ.Ok t n → ok (tagOf t) n ≡ orElse p q
 held q {r} {p} {t} {n} e h = alt-here p q (tagOf t) n (sym e ∙ ap tagRes h)
+
+-- an answer whose reason is not told: what is there of q, or its failure with `otherText`
+module _ (r : TagRes) {q : Res Tag} where
+  pub untold : {p : Res Tag} → tagRes r ≡ p → orElse p (fail otherText) ≡ q → orElse (tagRes r) (fail otherText) ≡ q
+  untold e h = ap (λ (z : Res Tag). orElse z (fail otherText)) e ∙ h
+
+  module _ (e : orElse (tagRes r) (fail otherText) ≡ q) where
+    pub untold-held : {t : tagᵈ.Tag} {n : ℕ} → r ≡ tagResᵛ.Ok t n → ok (tagOf t) n ≡ q
+    untold-held h = rw h at e
+
+    pub untold-failed : {why : whyᵈ.Why} → r ≡ tagResᵛ.Fail why → fail otherText ≡ q
+    untold-failed h = rw h at e

@@ -3,6 +3,7 @@ use crate::HeadTag;
 use crate::LeftOut;
 use crate::Tag;
 use crate::TagRes;
+use crate::letter_at;
 use crate::marked;
 use text::Why;
 use text::basic_tags;
@@ -11,6 +12,7 @@ use text::scan;
 use text::util;
 use text::util::Parsed;
 ghost use mathlib.Core.Path.{_≡_};
+ghost use Rattle.text.specs.Why.{otherText};
 ghost use Rattle.text.specs.Nom as nom;
 ghost use Rattle.text.specs.Util as util;
 ghost use Rattle.tags.specs.Tags as rule;
@@ -93,43 +95,58 @@ fn playlist_type_tag(text: &[u8], at: usize) -> TagRes
     }
 }
 
-pub fn playlist_tag(text: &[u8], at: usize) -> TagRes
-    ensures { λ r. ⌜ tagRes r ≡ rule.playlistTag (now (text .entry)) at ⌝ }
+// The two tags with an `I`.
+fn frames_or_apart_tag(text: &[u8], at: usize) -> TagRes
+    ensures { λ r. ⌜ tagRes r ≡ nom.alt rule.iFramesOnlyTag rule.independentSegmentsTag (now (text .entry)) at ⌝ }
 {
-    match version_tag(text, at) {
-        TagRes::Ok(t, after) => return TagRes::Ok(t, after),
-        TagRes::Fail(_) => {}
-    }
-    match target_duration_tag(text, at) {
-        TagRes::Ok(t, after) => return TagRes::Ok(t, after),
-        TagRes::Fail(_) => {}
-    }
-    match media_sequence_tag(text, at) {
-        TagRes::Ok(t, after) => return TagRes::Ok(t, after),
-        TagRes::Fail(_) => {}
-    }
-    match discontinuity_sequence_tag(text, at) {
-        TagRes::Ok(t, after) => return TagRes::Ok(t, after),
-        TagRes::Fail(_) => {}
-    }
-    match playlist_type_tag(text, at) {
-        TagRes::Ok(t, after) => return TagRes::Ok(t, after),
-        TagRes::Fail(_) => {}
-    }
     let frames = Tag::Head(HeadTag::IFramesOnly);
     match marked(text, at, b"#EXT-X-I-FRAMES-ONLY", frames) {
         TagRes::Ok(t, after) => return TagRes::Ok(t, after),
         TagRes::Fail(_) => {}
     }
-    let start = Tag::LeftOut(LeftOut::Start);
-    match marked(text, at, b"#EXT-X-START:", start) {
-        TagRes::Ok(t, after) => return TagRes::Ok(t, after),
-        TagRes::Fail(_) => {}
-    }
     let apart = Tag::Head(HeadTag::IndependentSegments);
-    match marked(text, at, b"#EXT-X-INDEPENDENT-SEGMENTS", apart) {
-        TagRes::Ok(t, after) => return TagRes::Ok(t, after),
-        TagRes::Fail(_) => {}
+    marked(text, at, b"#EXT-X-INDEPENDENT-SEGMENTS", apart)
+}
+
+// Only the tags of the letter that stands there are tried. One that fails says its own reason, which `playlist_tag` drops.
+fn lettered_tag(text: &[u8], at: usize) -> TagRes
+    ensures { λ r. ⌜ nom.orElse (tagRes r) (nom.fail otherText) ≡ rule.playlistTag (now (text .entry)) at ⌝ }
+{
+    let letter = letter_at(text, at);
+    if letter == b'V' {
+        return version_tag(text, at);
     }
-    marked(text, at, b"#EXT-X-ENDLIST", Tag::Head(HeadTag::EndList))
+    if letter == b'T' {
+        return target_duration_tag(text, at);
+    }
+    if letter == b'M' {
+        return media_sequence_tag(text, at);
+    }
+    if letter == b'D' {
+        return discontinuity_sequence_tag(text, at);
+    }
+    if letter == b'P' {
+        return playlist_type_tag(text, at);
+    }
+    if letter == b'I' {
+        return frames_or_apart_tag(text, at);
+    }
+    if letter == b'S' {
+        let start = Tag::LeftOut(LeftOut::Start);
+        return marked(text, at, b"#EXT-X-START:", start);
+    }
+    if letter == b'E' {
+        let end_list = Tag::Head(HeadTag::EndList);
+        return marked(text, at, b"#EXT-X-ENDLIST", end_list);
+    }
+    TagRes::Fail(Why::OtherText)
+}
+
+pub fn playlist_tag(text: &[u8], at: usize) -> TagRes
+    ensures { λ r. ⌜ tagRes r ≡ rule.playlistTag (now (text .entry)) at ⌝ }
+{
+    match lettered_tag(text, at) {
+        TagRes::Ok(t, after) => TagRes::Ok(t, after),
+        TagRes::Fail(_) => TagRes::Fail(Why::OtherText),
+    }
 }

@@ -3,6 +3,7 @@ use crate::ClipTag;
 use crate::LeftOut;
 use crate::Tag;
 use crate::TagRes;
+use crate::letter_at;
 use crate::marked;
 use attributes::ext_map;
 use attributes::ext_map::MapRes;
@@ -13,6 +14,8 @@ use text::scan;
 use text::util;
 use text::util::ByteRangeRes;
 ghost use mathlib.Core.Path.{_≡_};
+ghost use Rattle.text.specs.Why.{otherText};
+ghost use Rattle.text.specs.Nom as nom;
 ghost use Rattle.tags.specs.Tags as rule;
 ghost use Rattle.tags.specs.Answers.{tagRes};
 
@@ -58,40 +61,52 @@ fn map_tag(text: &[u8], at: usize) -> TagRes
     }
 }
 
-pub fn segment_tag(text: &[u8], at: usize) -> TagRes
-    ensures { λ r. ⌜ tagRes r ≡ rule.segmentTag (now (text .entry)) at ⌝ }
+// The two tags with a `D`.
+fn break_or_dates_tag(text: &[u8], at: usize) -> TagRes
+    ensures { λ r. ⌜ tagRes r ≡ nom.alt rule.discontinuityTag rule.dateRangeTag (now (text .entry)) at ⌝ }
 {
-    match extinf_line(text, at) {
-        TagRes::Ok(t, after) => return TagRes::Ok(t, after),
-        TagRes::Fail(_) => {}
-    }
-    match byte_range_tag(text, at) {
-        TagRes::Ok(t, after) => return TagRes::Ok(t, after),
-        TagRes::Fail(_) => {}
-    }
-    match marked(
-        text,
-        at,
-        b"#EXT-X-DISCONTINUITY",
-        Tag::Clip(ClipTag::Discontinuity),
-    ) {
-        TagRes::Ok(t, after) => return TagRes::Ok(t, after),
-        TagRes::Fail(_) => {}
-    }
-    let key = Tag::LeftOut(LeftOut::Key);
-    match marked(text, at, b"#EXT-X-KEY:", key) {
-        TagRes::Ok(t, after) => return TagRes::Ok(t, after),
-        TagRes::Fail(_) => {}
-    }
-    match map_tag(text, at) {
-        TagRes::Ok(t, after) => return TagRes::Ok(t, after),
-        TagRes::Fail(_) => {}
-    }
-    let date_time = Tag::LeftOut(LeftOut::ProgramDateTime);
-    match marked(text, at, b"#EXT-X-PROGRAM-DATE-TIME:", date_time) {
+    let discontinuity = Tag::Clip(ClipTag::Discontinuity);
+    match marked(text, at, b"#EXT-X-DISCONTINUITY", discontinuity) {
         TagRes::Ok(t, after) => return TagRes::Ok(t, after),
         TagRes::Fail(_) => {}
     }
     let date_range = Tag::LeftOut(LeftOut::DateRange);
     marked(text, at, b"#EXT-X-DATERANGE:", date_range)
+}
+
+// Only the tags of the letter that stands there are tried. One that fails says its own reason, which `segment_tag` drops.
+fn lettered_tag(text: &[u8], at: usize) -> TagRes
+    ensures { λ r. ⌜ nom.orElse (tagRes r) (nom.fail otherText) ≡ rule.segmentTag (now (text .entry)) at ⌝ }
+{
+    let letter = letter_at(text, at);
+    if letter == b':' {
+        return extinf_line(text, at);
+    }
+    if letter == b'B' {
+        return byte_range_tag(text, at);
+    }
+    if letter == b'D' {
+        return break_or_dates_tag(text, at);
+    }
+    if letter == b'K' {
+        let key = Tag::LeftOut(LeftOut::Key);
+        return marked(text, at, b"#EXT-X-KEY:", key);
+    }
+    if letter == b'M' {
+        return map_tag(text, at);
+    }
+    if letter == b'P' {
+        let date_time = Tag::LeftOut(LeftOut::ProgramDateTime);
+        return marked(text, at, b"#EXT-X-PROGRAM-DATE-TIME:", date_time);
+    }
+    TagRes::Fail(Why::OtherText)
+}
+
+pub fn segment_tag(text: &[u8], at: usize) -> TagRes
+    ensures { λ r. ⌜ tagRes r ≡ rule.segmentTag (now (text .entry)) at ⌝ }
+{
+    match lettered_tag(text, at) {
+        TagRes::Ok(t, after) => TagRes::Ok(t, after),
+        TagRes::Fail(_) => TagRes::Fail(Why::OtherText),
+    }
 }

@@ -20,5 +20,7 @@ pub mod Number
 pub mod Line
 -- the characters of RFC 3629
 pub mod Chars
+-- stretches of places
+pub mod Blocks
 -- no second answer fits a contract
 pub mod Only

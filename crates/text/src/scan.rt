@@ -2,7 +2,10 @@
 use crate::Part;
 use crate::Span;
 ghost use mathlib.Core.Path.{_≡_};
+ghost use mathlib.Core.Bool.{true};
 ghost use mathlib.Core.List.{[], _∷_};
+ghost use Prim.Native.Nat.{ℕ, _+_, _≤_, _<_};
+ghost use lib.ListN.{length, getD};
 ghost use Rattle.text.specs.Nom.{bytes, isDigit, isOneOf, isNoneOf, tagged, afterTag, runEnd, spanOr};
 ghost use Rattle.text.specs.Util as util;
 ghost use Rattle.text.specs.Answers.{spanOf, partOf};
@@ -124,6 +127,42 @@ pub fn while_any(text: &[u8], at: usize, set: &[u8]) -> usize
     i
 }
 
+// Whether each of the `size` bytes at `at` is one from `lo` to `hi`. All of them are looked at, with no way out before the last,
+// so that the compiler takes many at once.
+fn block_within(text: &[u8], at: usize, size: usize, lo: u8, hi: u8) -> bool
+    requires { ⌜ at + size ≤ length (now text) ⌝ }
+    ensures { λ r. ⌜ (r ≡ true → (j : ℕ) → at ≤ j → j < at + size → (lo ≤ getD (now (text .entry)) j 0) × (getD (now (text .entry)) j 0 ≤ hi)) ⌝ }
+{
+    let mut within = true;
+    let mut k: usize = 0;
+    while k < size {
+        let i = at + k;
+        let b = text[i];
+        within = within & (lo <= b) & (b <= hi);
+        k += 1;
+    }
+    within
+}
+
+// Past the blocks of `size` bytes from `at` on whose bytes are from `lo` to `hi`.
+pub(crate) fn within_end(text: &[u8], at: usize, size: usize, lo: u8, hi: u8) -> usize
+    requires { ⌜ 0 < size ⌝ }
+    ensures { λ r. ⌜ (at ≤ r) × ((j : ℕ) → at ≤ j → j < r → (j < length (now (text .entry))) × ((lo ≤ getD (now (text .entry)) j 0) × (getD (now (text .entry)) j 0 ≤ hi))) ⌝ }
+{
+    let mut i = at;
+    while i < text.len() {
+        if text.len() - i < size {
+            return i;
+        }
+        if block_within(text, i, size, lo, hi) {
+            i += size;
+        } else {
+            return i;
+        }
+    }
+    i
+}
+
 fn is_one_of_four(a: u8, b: u8, c: u8, d: u8, x: u8) -> bool
     ensures { λ r. ⌜ r ≡ isOneOf (a ∷ b ∷ c ∷ d ∷ []) x ⌝ }
 {
@@ -172,11 +211,27 @@ pub fn until_one(text: &[u8], at: usize, a: u8) -> usize
     until_four(text, at, a, a, a, a)
 }
 
+// How many bytes of a line are looked at in one go.
+const LINE_BLOCK: usize = 16;
+
+// The byte after CR: neither it nor any above ends a line.
+const ABOVE_CR: u8 = 0x0E;
+
+// Past blocks of bytes above CR, which end no line.
+fn line_blocks_end(text: &[u8], at: usize, size: usize) -> usize
+    requires { ⌜ 0 < size ⌝ }
+    ensures { λ r. ⌜ runEnd (isNoneOf (bytes "\r\n")) (now (text .entry)) at ≡ runEnd (isNoneOf (bytes "\r\n")) (now (text .entry)) r ⌝ }
+{
+    within_end(text, at, size, ABOVE_CR, 0xFF)
+}
+
 // The end of the line at `at`: the first CR or LF from there on, or where the text ends.
 pub fn line_end(text: &[u8], at: usize) -> usize
     ensures { λ r. ⌜ r ≡ runEnd (isNoneOf (bytes "\r\n")) (now (text .entry)) at ⌝ }
 {
-    until_two(text, at, b'\r', b'\n')
+    let blocks = line_blocks_end(text, at, LINE_BLOCK);
+    let single = line_blocks_end(text, blocks, 1);
+    until_two(text, single, b'\r', b'\n')
 }
 
 // `while_any` for a set of four bytes, tested in place.
@@ -194,11 +249,27 @@ fn while_four(text: &[u8], at: usize, a: u8, b: u8, c: u8, d: u8) -> usize
     i
 }
 
+// How many spaces are passed in one go.
+const SPACE_BLOCK: usize = 16;
+
+// Past blocks of spaces. They are tried only where a space stands: most runs of blanks are empty or short.
+fn space_blocks_end(text: &[u8], at: usize) -> usize
+    ensures { λ r. ⌜ runEnd (isOneOf (bytes " \t\r\n")) (now (text .entry)) at ≡ runEnd (isOneOf (bytes " \t\r\n")) (now (text .entry)) r ⌝ }
+{
+    if at < text.len() {
+        if text[at] == b' ' {
+            return within_end(text, at, SPACE_BLOCK, b' ', b' ');
+        }
+    }
+    at
+}
+
 // Past blanks: spaces, tabs, CRs and LFs.
 pub fn multispace0(text: &[u8], at: usize) -> usize
     ensures { λ r. ⌜ r ≡ runEnd (isOneOf (bytes " \t\r\n")) (now (text .entry)) at ⌝ }
 {
-    while_four(text, at, b' ', b'\t', b'\r', b'\n')
+    let blocks = space_blocks_end(text, at);
+    while_four(text, blocks, b' ', b'\t', b'\r', b'\n')
 }
 
 // Past spaces and tabs.

@@ -1,6 +1,7 @@
 // UTF-8, row by row as RFC 3629's grammar has it.
+use crate::scan;
 ghost use mathlib.Core.Path.{_≡_};
-ghost use Prim.Native.Nat.{_+_};
+ghost use Prim.Native.Nat.{_+_, _≤_};
 ghost use Rattle.text.specs.Utf8 as rule;
 ghost use Rattle.text.specs.Answers.{taken, charOf};
 
@@ -81,12 +82,22 @@ pub fn utf8_char(text: &[u8], at: usize) -> usize
     0
 }
 
+// How many bytes are looked at in one go.
+const BLOCK: usize = 64;
+
+// Past the blocks from `at` on that hold nothing but bytes below 0x80: each of these is a character.
+fn ascii_blocks_end(text: &[u8], at: usize) -> usize
+    ensures { λ r. ⌜ (at ≤ r) × (rule.utf8End (now (text .entry)) at ≡ rule.utf8End (now (text .entry)) r) ⌝ }
+{
+    scan::within_end(text, at, BLOCK, 0x00, 0x7F)
+}
+
 // The text's length where it is UTF-8, else the first byte of the first ill-formed sequence.
-// A byte below 0x80 is a character, which is seen at once.
+// Blocks of bytes below 0x80 are passed at the start and after every other character.
 pub fn utf8_end(text: &[u8]) -> usize
     ensures { λ r. ⌜ r ≡ rule.utf8End (now (text .entry)) 0 ⌝ }
 {
-    let mut i = 0;
+    let mut i = ascii_blocks_end(text, 0);
     while i < text.len() {
         if text[i] < 0x80 {
             i += 1;
@@ -95,7 +106,7 @@ pub fn utf8_end(text: &[u8]) -> usize
             if n == 0 {
                 return i;
             }
-            i += n;
+            i = ascii_blocks_end(text, i + n);
         }
     }
     i

@@ -1,16 +1,12 @@
--- The tags of a kind, tried one after the other: past one that is not there, up to the one that is; and none of them where no `#` stands.
--- Assumes nothing.
+-- The names of a kind as lists, what the test for one says, and `#EXT-X-MEDIA` with its run. Assumes nothing.
 use Prim.Native.Nat.{ℕ, _+_, _≤_, _<_}
-use mathlib.Core.Path.{_≡_, refl, sym, _∙_, ap}
+use mathlib.Core.Path.{_≡_}
 use mathlib.Core.Bool.{Bool, true, false}
 use mathlib.Core.List.{List, [], _∷_, _++_}
-use lib.ListN.{getD}
 use borrow.Author.Tests.{lt-ltb, le-ltb}
 use Rattle.text.specs.Why.{otherText, missingByte}
-use Rattle.text.specs.Nom.{Res, fail, ok, Parser, bytes, tag, tagged, isNoneOf, runEnd, isNot, preceded, map, when, orElse, bind, alt}
-use Rattle.text.proofs.Laws.{tagged-not}
-use Rattle.text.proofs.Chain.{alt-here, alt-skip}
-use Rattle.verdict.specs.Verdict.{kind, masterTag, playlistTag, segmentTag, mediaTag}
+use Rattle.text.specs.Nom.{Res, fail, ok, Parser, bytes, tag, tagged, isNoneOf, runEnd, isNot, preceded, map, when, orElse, bind}
+use Rattle.verdict.specs.Verdict.{kind}
 
 -- `#` and the first of these names that is there
 abbrev pub named : Bool → List (List ℕ) → Parser Bool
@@ -47,19 +43,6 @@ segmentNames =
 abbrev pub told : Bool → Bool → ℕ → Res Bool
 told k b n = bind (when b otherText (ok (tt {0}) n)) (λ _ m. ok k m)
 
-module _ {b c : Bool} (k : Bool) (n : ℕ) (e : b ≡ c) where
-  pub told-yes : b ≡ true → told k c n ≡ ok k n
-  told-yes h = ap (λ (d : Bool). told k d n) (sym e ∙ h)
-
-  pub told-no : b ≡ false → told k c n ≡ fail otherText
-  told-no h = ap (λ (d : Bool). told k d n) (sym e ∙ h)
-
-  pub tag-here : (q : Res Bool) → b ≡ true → ok k n ≡ orElse (told k c n) q
-  tag-here q h = alt-here (told k c n) q k n (told-yes h)
-
-  pub tag-skip : (q : Res Bool) → b ≡ false → q ≡ orElse (told k c n) q
-  tag-skip q h = alt-skip (told k c n) q q otherText (told-no h) refl
-
 -- ---- `#EXT-X-MEDIA` and its run up to the next `-`
 abbrev pub group : Parser Bool
 group = map (λ _. true) (preceded (tag (bytes "#EXT-X-MEDIA")) (isNot missingByte (bytes "-")))
@@ -74,27 +57,3 @@ module _ (text : List ℕ) (at : ℕ) where
 
     pub group-here : at + 12 < dash → group text at ≡ ok true dash
     group-here h = rw (e, ← r, lt-ltb (at + 12) dash h)
-
--- ---- where no `#` stands
-module _ (text : List ℕ) (at : ℕ) (h : getD text at 0 ≡ 35 → ⊥) where
-  none-named : (k : Bool) (ts : List (List ℕ)) → named k ts text at ≡ fail otherText
-  none-named k [] = refl
-  none-named k (t ∷ []) = rw (tagged-not 35 t text at h)
-  none-named k (t ∷ u ∷ ts) = rw (tagged-not 35 t text at h) (none-named k (u ∷ ts))
-
-  none-master : masterTag text at ≡ fail otherText
-  unfolding masterTag
-  none-master =
-      rw (
-        tagged-not 35 (bytes "EXT-X-STREAM-INF") text at h,
-        tagged-not 35 (bytes "EXT-X-I-FRAME-STREAM-INF") text at h,
-        tagged-not 35 (bytes "EXT-X-MEDIA") text at h,
-      )
-      (none-named true sessionNames)
-
-  none-media : mediaTag text at ≡ fail otherText
-  unfolding mediaTag playlistTag segmentTag
-  none-media = rw (none-named false playlistNames) (none-named false segmentNames)
-
-  pub none-tells : alt masterTag mediaTag text at ≡ fail otherText
-  none-tells = rw none-master none-media

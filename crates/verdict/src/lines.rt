@@ -4,7 +4,12 @@ use text::Why;
 use text::scan;
 use text::util;
 ghost use mathlib.Core.Path.{_≡_};
+ghost use mathlib.Core.Bool.{true, false};
+ghost use Prim.Native.Nat.{_+_};
+ghost use lib.ListN.{getD};
+ghost use Rattle.text.specs.Why.{missingByte};
 ghost use Rattle.text.specs.Nom.{alt, map};
+ghost use Rattle.text.specs.Nom as nom;
 ghost use Rattle.text.specs.Util.{consumeLine};
 ghost use Rattle.verdict.specs.Verdict as rule;
 ghost use Rattle.verdict.specs.Answers.{kindRes, saysOf, lineRes, verdictSeen};
@@ -15,94 +20,166 @@ pub enum KindRes {
     Ok(bool, usize),
 }
 
-// Five tags are a master playlist's. The run after `#EXT-X-MEDIA` goes to the next `-`, across lines.
-fn master_tag(text: &[u8], at: usize) -> KindRes
-    ensures { λ r. ⌜ kindRes r ≡ rule.masterTag (now (text .entry)) at ⌝ }
+// The byte so many places after `at`; 0 where the text is shorter.
+fn byte_at(text: &[u8], at: usize, place: usize) -> u8
+    ensures { λ r. ⌜ r ≡ getD (now (text .entry)) (at + place) 0 ⌝ }
 {
-    if scan::starts_with(text, at, b"#EXT-X-STREAM-INF") {
-        return KindRes::Ok(true, at + 17);
+    if text.len() <= place {
+        return 0;
     }
-    if scan::starts_with(text, at, b"#EXT-X-I-FRAME-STREAM-INF") {
-        return KindRes::Ok(true, at + 25);
+    if text.len() - place <= at {
+        return 0;
     }
+    text[at + place]
+}
+
+fn named(text: &[u8], at: usize, name: &[u8], kind: bool) -> KindRes
+    ensures { λ r. ⌜ kindRes r ≡ rule.kind kind (nom.tag (now (name .entry))) (now (text .entry)) at ⌝ }
+{
+    if scan::starts_with(text, at, name) {
+        KindRes::Ok(kind, at + name.len())
+    } else {
+        KindRes::Fail(Why::OtherText)
+    }
+}
+
+// Two names of one kind.
+fn either(text: &[u8], at: usize, first: &[u8], second: &[u8], kind: bool) -> KindRes
+    ensures { λ r. ⌜ kindRes r ≡ alt (rule.kind kind (nom.tag (now (first .entry)))) (rule.kind kind (nom.tag (now (second .entry)))) (now (text .entry)) at ⌝ }
+{
+    match named(text, at, first, kind) {
+        KindRes::Ok(same, after) => KindRes::Ok(same, after),
+        KindRes::Fail(_) => named(text, at, second, kind),
+    }
+}
+
+// Three names of one kind.
+fn one_of_three(
+    text: &[u8],
+    at: usize,
+    first: &[u8],
+    second: &[u8],
+    third: &[u8],
+    kind: bool,
+) -> KindRes
+    ensures { λ r. ⌜ kindRes r ≡ alt (rule.kind kind (nom.tag (now (first .entry)))) (alt (rule.kind kind (nom.tag (now (second .entry)))) (rule.kind kind (nom.tag (now (third .entry))))) (now (text .entry)) at ⌝ }
+{
+    match named(text, at, first, kind) {
+        KindRes::Ok(same, after) => KindRes::Ok(same, after),
+        KindRes::Fail(_) => either(text, at, second, third, kind),
+    }
+}
+
+// The run after `#EXT-X-MEDIA` goes to the next `-`, across lines.
+fn group_tag(text: &[u8], at: usize) -> KindRes
+    ensures { λ r. ⌜ kindRes r ≡ map (λ _. true) (nom.preceded (nom.tag (nom.bytes "#EXT-X-MEDIA")) (nom.isNot missingByte (nom.bytes "-"))) (now (text .entry)) at ⌝ }
+{
     if scan::starts_with(text, at, b"#EXT-X-MEDIA") {
         let dash = scan::until_one(text, at + 12, b'-');
         if at + 12 < dash {
             return KindRes::Ok(true, dash);
         }
-    }
-    if scan::starts_with(text, at, b"#EXT-X-SESSION-KEY") {
-        return KindRes::Ok(true, at + 18);
-    }
-    if scan::starts_with(text, at, b"#EXT-X-SESSION-DATA") {
-        return KindRes::Ok(true, at + 19);
+        return KindRes::Fail(Why::MissingByte);
     }
     KindRes::Fail(Why::OtherText)
 }
 
-// Of the thirteen tags of a media playlist, those of the playlist (RFC 8216, 4.3.3),
-fn playlist_tag(text: &[u8], at: usize) -> KindRes
-    ensures { λ r. ⌜ kindRes r ≡ rule.playlistTag (now (text .entry)) at ⌝ }
+// Those with an `I` and those with an `M`: first of master playlists, then of media playlists.
+fn frames_tag(text: &[u8], at: usize) -> KindRes
+    ensures { λ r. ⌜ kindRes r ≡ alt (rule.kind true (nom.tag (nom.bytes "#EXT-X-I-FRAME-STREAM-INF"))) (rule.kind false (nom.tag (nom.bytes "#EXT-X-I-FRAMES-ONLY"))) (now (text .entry)) at ⌝ }
 {
-    if scan::starts_with(text, at, b"#EXT-X-TARGETDURATION") {
-        return KindRes::Ok(false, at + 21);
-    }
-    if scan::starts_with(text, at, b"#EXT-X-MEDIA-SEQUENCE") {
-        return KindRes::Ok(false, at + 21);
-    }
-    if scan::starts_with(text, at, b"#EXT-X-DISCONTINUITY-SEQUENCE") {
-        return KindRes::Ok(false, at + 29);
-    }
-    if scan::starts_with(text, at, b"#EXT-X-ENDLIST") {
-        return KindRes::Ok(false, at + 14);
-    }
-    if scan::starts_with(text, at, b"#EXT-X-PLAYLIST-TYPE") {
-        return KindRes::Ok(false, at + 20);
-    }
-    if scan::starts_with(text, at, b"#EXT-X-I-FRAMES-ONLY") {
-        return KindRes::Ok(false, at + 20);
-    }
-    KindRes::Fail(Why::OtherText)
-}
-
-// and those of its segments (4.3.2).
-fn segment_tag(text: &[u8], at: usize) -> KindRes
-    ensures { λ r. ⌜ kindRes r ≡ rule.segmentTag (now (text .entry)) at ⌝ }
-{
-    if scan::starts_with(text, at, b"#EXTINF") {
-        return KindRes::Ok(false, at + 7);
-    }
-    if scan::starts_with(text, at, b"#EXT-X-BYTERANGE") {
-        return KindRes::Ok(false, at + 16);
-    }
-    if scan::starts_with(text, at, b"#EXT-X-DISCONTINUITY") {
-        return KindRes::Ok(false, at + 20);
-    }
-    if scan::starts_with(text, at, b"#EXT-X-KEY") {
-        return KindRes::Ok(false, at + 10);
-    }
-    if scan::starts_with(text, at, b"#EXT-X-MAP") {
-        return KindRes::Ok(false, at + 10);
-    }
-    if scan::starts_with(text, at, b"#EXT-X-PROGRAM-DATE-TIME") {
-        return KindRes::Ok(false, at + 24);
-    }
-    if scan::starts_with(text, at, b"#EXT-X-DATERANGE") {
-        return KindRes::Ok(false, at + 16);
-    }
-    KindRes::Fail(Why::OtherText)
-}
-
-fn media_tag(text: &[u8], at: usize) -> KindRes
-    ensures { λ r. ⌜ kindRes r ≡ rule.mediaTag (now (text .entry)) at ⌝ }
-{
-    match playlist_tag(text, at) {
+    match named(text, at, b"#EXT-X-I-FRAME-STREAM-INF", true) {
         KindRes::Ok(kind, after) => KindRes::Ok(kind, after),
-        KindRes::Fail(_) => segment_tag(text, at),
+        KindRes::Fail(_) => named(text, at, b"#EXT-X-I-FRAMES-ONLY", false),
     }
 }
 
-// Most lines are no tags, so the first byte is tried before eighteen names.
+fn media_or_map_tag(text: &[u8], at: usize) -> KindRes
+    ensures { λ r. ⌜ kindRes r ≡ alt (map (λ _. true) (nom.preceded (nom.tag (nom.bytes "#EXT-X-MEDIA")) (nom.isNot missingByte (nom.bytes "-")))) (alt (rule.kind false (nom.tag (nom.bytes "#EXT-X-MEDIA-SEQUENCE"))) (rule.kind false (nom.tag (nom.bytes "#EXT-X-MAP")))) (now (text .entry)) at ⌝ }
+{
+    match group_tag(text, at) {
+        KindRes::Ok(kind, after) => KindRes::Ok(kind, after),
+        KindRes::Fail(_) => either(text, at, b"#EXT-X-MEDIA-SEQUENCE", b"#EXT-X-MAP", false),
+    }
+}
+
+// The names with an `S`, of master playlists.
+fn stream_or_session_tag(text: &[u8], at: usize) -> KindRes
+    ensures { λ r. ⌜ kindRes r ≡ alt (rule.kind true (nom.tag (nom.bytes "#EXT-X-STREAM-INF"))) (alt (rule.kind true (nom.tag (nom.bytes "#EXT-X-SESSION-KEY"))) (rule.kind true (nom.tag (nom.bytes "#EXT-X-SESSION-DATA")))) (now (text .entry)) at ⌝ }
+{
+    one_of_three(
+        text,
+        at,
+        b"#EXT-X-STREAM-INF",
+        b"#EXT-X-SESSION-KEY",
+        b"#EXT-X-SESSION-DATA",
+        true,
+    )
+}
+
+// Those with a `D` and those with a `P`, of media playlists.
+fn break_or_dates_tag(text: &[u8], at: usize) -> KindRes
+    ensures { λ r. ⌜ kindRes r ≡ alt (rule.kind false (nom.tag (nom.bytes "#EXT-X-DISCONTINUITY-SEQUENCE"))) (alt (rule.kind false (nom.tag (nom.bytes "#EXT-X-DISCONTINUITY"))) (rule.kind false (nom.tag (nom.bytes "#EXT-X-DATERANGE")))) (now (text .entry)) at ⌝ }
+{
+    one_of_three(
+        text,
+        at,
+        b"#EXT-X-DISCONTINUITY-SEQUENCE",
+        b"#EXT-X-DISCONTINUITY",
+        b"#EXT-X-DATERANGE",
+        false,
+    )
+}
+
+fn type_or_time_tag(text: &[u8], at: usize) -> KindRes
+    ensures { λ r. ⌜ kindRes r ≡ alt (rule.kind false (nom.tag (nom.bytes "#EXT-X-PLAYLIST-TYPE"))) (rule.kind false (nom.tag (nom.bytes "#EXT-X-PROGRAM-DATE-TIME"))) (now (text .entry)) at ⌝ }
+{
+    either(
+        text,
+        at,
+        b"#EXT-X-PLAYLIST-TYPE",
+        b"#EXT-X-PROGRAM-DATE-TIME",
+        false,
+    )
+}
+
+// The names that begin with `#EXT-X-`: only those of the letter behind it are tried.
+fn lettered_tag(text: &[u8], at: usize) -> KindRes
+    requires { ⌜ (getD (now text) (at + 4) 0 ≡ 73 → ⊥) ⌝ }
+    ensures { λ r. ⌜ kindRes r ≡ alt rule.masterTag rule.mediaTag (now (text .entry)) at ⌝ }
+{
+    let letter = byte_at(text, at, 7);
+    if letter == b'S' {
+        return stream_or_session_tag(text, at);
+    }
+    if letter == b'I' {
+        return frames_tag(text, at);
+    }
+    if letter == b'M' {
+        return media_or_map_tag(text, at);
+    }
+    if letter == b'D' {
+        return break_or_dates_tag(text, at);
+    }
+    if letter == b'P' {
+        return type_or_time_tag(text, at);
+    }
+    if letter == b'T' {
+        return named(text, at, b"#EXT-X-TARGETDURATION", false);
+    }
+    if letter == b'E' {
+        return named(text, at, b"#EXT-X-ENDLIST", false);
+    }
+    if letter == b'B' {
+        return named(text, at, b"#EXT-X-BYTERANGE", false);
+    }
+    if letter == b'K' {
+        return named(text, at, b"#EXT-X-KEY", false);
+    }
+    KindRes::Fail(Why::OtherText)
+}
+
+// Most lines are no tags, so the first byte is tried before eighteen names; and `#EXTINF` is told from the others by its `I`.
 fn tag_kind(text: &[u8], at: usize) -> KindRes
     ensures { λ r. ⌜ kindRes r ≡ alt rule.masterTag rule.mediaTag (now (text .entry)) at ⌝ }
 {
@@ -111,10 +188,10 @@ fn tag_kind(text: &[u8], at: usize) -> KindRes
             return KindRes::Fail(Why::OtherText);
         }
     }
-    match master_tag(text, at) {
-        KindRes::Ok(kind, after) => KindRes::Ok(kind, after),
-        KindRes::Fail(_) => media_tag(text, at),
+    if byte_at(text, at, 4) == b'I' {
+        return named(text, at, b"#EXTINF", false);
     }
+    lettered_tag(text, at)
 }
 
 // What a line says, with the place of its `#`.

@@ -4,10 +4,10 @@ use Rattle.probe.proofs.run.Statement.{statement}
 use Rattle.probe.proofs.run.Tie as tie
 
 abbrev Inv-loop : tie.InvT-loop
-Inv-loop from₀ to₀ text₀ clips₀ tags₀ s₀ records₀ from to text clips tags s records = Unit {0}
+Inv-loop from₀ to₀ text₀ clips₀ tags₀ out₀ s₀ records₀ from to text clips tags out s records = Unit {0}
 
 abbrev μ-loop : tie.MeasureT-loop
-μ-loop from₀ to₀ text₀ clips₀ tags₀ s₀ records₀ from to text clips tags s records = records
+μ-loop from₀ to₀ text₀ clips₀ tags₀ out₀ s₀ records₀ from to text clips tags out s records = records
 
 new-requires : tie.Need-new-requires Inv-loop μ-loop
 new-requires c κs = search needs

@@ -1,7 +1,7 @@
--- `media_playlist_tag`: where no byte stands it fails; how the alternatives begin (`Begins`) says which need not be tried. Assumes nothing.
+-- `media_playlist_tag`: where no byte stands it fails, and where no `#` stands it is a URI; else the tags of the head, then the others. Assumes nothing.
 use borrow.Author.Needs.{needs}
 use Rattle.tags.proofs.Tried.{failed, held}
-use Rattle.tags.proofs.Begins.{head-first, head-none, not-hash}
+use Rattle.tags.proofs.Begins.{head-first, not-hash}
 use Rattle.tags.specs.Tags.{mediaPlaylistTag}
 use borrow.Author.Tests.{le-ltb}
 use mathlib.Core.Path.{sym, _∙_}
@@ -21,12 +21,6 @@ uri-line-requires c κs = search needs
 returns-2 : tie.Need-returns-2
 returns-2 c = c .uri-line .ensures ∙ sym (not-hash _ _ (c .before .if2 .taken) (c .before .before .before .if1 .left))
 
-slice-aggregate-starts-with : tie.Need-slice-aggregate-starts-with
-slice-aggregate-starts-with c = search needs
-
-starts-with-requires : tie.Need-starts-with-requires
-starts-with-requires c κs = search needs
-
 playlist-tag-requires : tie.Need-playlist-tag-requires
 playlist-tag-requires c κs = search needs
 
@@ -39,17 +33,11 @@ enum-told c = search needs
 media-segment-tag-requires : tie.Need-media-segment-tag-requires
 media-segment-tag-requires c κs = search needs
 
-media-segment-tag-requires-2 : tie.Need-media-segment-tag-requires-2
-media-segment-tag-requires-2 c κs = search needs
-
 returns-3 : tie.Need-returns-3
-returns-3 c = let t = c .before .before .before in held _ (t .playlist-tag .ensures) (c .before .t .given .1) ∙ head-first _ _ (t .before .before .before .before .before .before .if1 .left)
+returns-3 c = let t = c .before .before .before in held _ (t .playlist-tag .ensures) (c .before .t .given .1) ∙ head-first _ _ (t .before .before .before .if1 .left)
 
 returns-4 : tie.Need-returns-4
-returns-4 c = let t = c .before .before .before in c .media-segment-tag .ensures ∙ failed (t .playlist-tag .ensures) (c .before .enum-told .given .1) ∙ head-first _ _ (t .before .before .before .before .before .before .if1 .left)
-
-returns-5 : tie.Need-returns-5
-returns-5 c = c .media-segment-tag2 .ensures ∙ head-none _ _ (c .before .before .before .before .before .before .if1 .left) (sym (c .before .before .starts-with .ensures) ∙ c .before .if3 .left)
+returns-4 c = let t = c .before .before .before in c .media-segment-tag .ensures ∙ failed (t .playlist-tag .ensures) (c .before .enum-told .given .1) ∙ head-first _ _ (t .before .before .before .if1 .left)
 
 pub media-playlist-tag-spec : {M : Type 1} → statement M
 media-playlist-tag-spec =
@@ -59,13 +47,9 @@ media-playlist-tag-spec =
     shared-slice-read-if2
     uri-line-requires
     returns-2
-    slice-aggregate-starts-with
-    starts-with-requires
     playlist-tag-requires
     enum-known-t
     enum-told
     media-segment-tag-requires
-    media-segment-tag-requires-2
     returns-3
-    returns-4
-    returns-5)
+    returns-4)

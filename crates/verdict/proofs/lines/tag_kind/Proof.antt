@@ -1,7 +1,6 @@
--- `lines::tag_kind`: where no `#` stands no tag tells (`none-tells`); else what the two kinds ensure, in turn. Assumes nothing.
-use mathlib.Core.Path.{sym, _∙_, ap}
-use Rattle.verdict.specs.Answers.{kindRes}
-use Rattle.verdict.proofs.Tags.{none-tells}
+-- `lines::tag_kind`: where no `#` stands no tag tells (`none-tells`); else by the byte at place 4. Assumes nothing.
+use mathlib.Core.Path.{sym, _∙_}
+use Rattle.verdict.proofs.Letters.{none-tells, told-by-line}
 use borrow.Author.Needs.{needs}
 use Rattle.verdict.proofs.lines.tag_kind.Statement.{statement}
 use Rattle.verdict.proofs.lines.tag_kind.Tie as tie
@@ -10,25 +9,25 @@ shared-slice-read-if2 : tie.Need-shared-slice-read-if2
 shared-slice-read-if2 c = search needs
 
 returns : tie.Need-returns
-returns c = sym (none-tells _ _ (c .if2 .taken))
+returns c = none-tells _ _ (c .if2 .taken)
 
-master-tag-requires : tie.Need-master-tag-requires
-master-tag-requires c κs = search needs
+byte-at-requires : tie.Need-byte-at-requires
+byte-at-requires c κs = search needs
 
-enum-known-kind : tie.Need-enum-known-kind
-enum-known-kind c = search needs
+slice-aggregate-named : tie.Need-slice-aggregate-named
+slice-aggregate-named c = search needs
 
-enum-told : tie.Need-enum-told
-enum-told c = search needs
-
-media-tag-requires : tie.Need-media-tag-requires
-media-tag-requires c κs = search needs
+named-requires : tie.Need-named-requires
+named-requires c κs = search needs
 
 returns-2 : tie.Need-returns-2
-returns-2 c = rw (sym (c .before .before .before .master-tag .ensures) ∙ ap kindRes (c .before .kind .given .1))
+returns-2 c = c .named .ensures ∙ told-by-line _ _ (sym (c .before .before .if3 .taken) ∙ c .before .before .before .byte-at .ensures)
+
+lettered-tag-requires : tie.Need-lettered-tag-requires
+lettered-tag-requires c κs = λ e. c .if3 .left (c .before .byte-at .ensures ∙ e)
 
 returns-3 : tie.Need-returns-3
-returns-3 c = rw (sym (c .before .before .before .master-tag .ensures) ∙ ap kindRes (c .before .enum-told .given .1)) (c .media-tag .ensures)
+returns-3 c = c .lettered-tag .ensures
 
 pub tag-kind-spec : {M : Type 1} → statement M
 tag-kind-spec =
@@ -36,9 +35,9 @@ tag-kind-spec =
     (tie.spec
     shared-slice-read-if2
     returns
-    master-tag-requires
-    enum-known-kind
-    enum-told
-    media-tag-requires
+    byte-at-requires
+    slice-aggregate-named
+    named-requires
     returns-2
+    lettered-tag-requires
     returns-3)

@@ -1,0 +1,170 @@
+//! The calls of `libledgerfern.a` (include/ledgerfern.h), each behind a safe function: a slice is its pointer and its
+//! length, so the memory that a call may touch is there; what is written is lent as `&mut`, so nothing else sees it.
+
+#[repr(C)]
+#[derive(Clone, Copy)]
+pub struct Verdict {
+    pub number: u64,
+    pub place: u64,
+    pub master: u64,
+}
+
+#[repr(C)]
+#[derive(Clone, Copy, Debug, PartialEq, Eq)]
+pub struct Head {
+    pub version_present: u64,
+    pub version: u64,
+    pub target_duration: u64,
+    pub media_sequence: u64,
+    pub discontinuity_sequence: u64,
+    pub playlist_type: u64,
+    pub type_start: u64,
+    pub type_end: u64,
+    pub end_list: u64,
+    pub i_frames_only: u64,
+    pub independent_segments: u64,
+}
+
+#[repr(C)]
+#[derive(Clone, Copy)]
+pub struct Read {
+    pub number: u64,
+    pub place: u64,
+    pub clips: u64,
+    pub tags: u64,
+    pub stop: u64,
+    pub head: Head,
+}
+
+#[repr(C)]
+#[derive(Clone, Copy)]
+pub struct Value {
+    pub number: u64,
+    pub place: u64,
+    pub value: u64,
+}
+
+#[repr(C)]
+#[derive(Clone, Copy)]
+pub struct Window {
+    pub number: u64,
+    pub place: u64,
+    pub present: u64,
+    pub start: u64,
+    pub end: u64,
+}
+
+#[repr(C)]
+#[derive(Clone, Copy)]
+pub struct Written {
+    pub number: u64,
+    pub place: u64,
+    pub length: u64,
+}
+
+mod calls {
+    use super::{Head, Written};
+    use super::{Read, Value, Verdict, Window};
+
+    extern "C" {
+        pub fn ledgerfern_verdict(text: *const u8, text_length: usize) -> Verdict;
+        pub fn ledgerfern_read(
+            text: *const u8,
+            text_length: usize,
+            clips: *mut u64,
+            clip_words: usize,
+            tags: *mut u64,
+            tag_words: usize,
+        ) -> Read;
+        pub fn ledgerfern_total(clip_count: usize, clips: *const u64, clip_words: usize) -> Value;
+        pub fn ledgerfern_start_tick(
+            clip_count: usize,
+            clips: *const u64,
+            clip_words: usize,
+            rate: u64,
+            turn: u64,
+            clip: usize,
+        ) -> Value;
+        pub fn ledgerfern_clip_ticks(
+            clip_count: usize,
+            clips: *const u64,
+            clip_words: usize,
+            rate: u64,
+            turn: u64,
+            clip: usize,
+        ) -> Value;
+        pub fn ledgerfern_window(clip_count: usize, clips: *const u64, clip_words: usize, clip: usize) -> Window;
+        pub fn ledgerfern_write(
+            text: *const u8,
+            text_length: usize,
+            head: Head,
+            clip_count: usize,
+            clips: *const u64,
+            clip_words: usize,
+            tag_count: usize,
+            tags: *const u64,
+            tag_words: usize,
+            out: *mut u8,
+            out_length: usize,
+        ) -> Written;
+    }
+}
+
+pub fn verdict(text: &[u8]) -> Verdict {
+    unsafe { calls::ledgerfern_verdict(text.as_ptr(), text.len()) }
+}
+
+pub fn read(text: &[u8], clips: &mut [u64], tags: &mut [u64]) -> Read {
+    unsafe {
+        calls::ledgerfern_read(
+            text.as_ptr(),
+            text.len(),
+            clips.as_mut_ptr(),
+            clips.len(),
+            tags.as_mut_ptr(),
+            tags.len(),
+        )
+    }
+}
+
+pub fn total(clip_count: usize, clips: &[u64]) -> Value {
+    unsafe { calls::ledgerfern_total(clip_count, clips.as_ptr(), clips.len()) }
+}
+
+pub fn start_tick(clip_count: usize, clips: &[u64], rate: u64, turn: u64, clip: usize) -> Value {
+    unsafe { calls::ledgerfern_start_tick(clip_count, clips.as_ptr(), clips.len(), rate, turn, clip) }
+}
+
+pub fn clip_ticks(clip_count: usize, clips: &[u64], rate: u64, turn: u64, clip: usize) -> Value {
+    unsafe { calls::ledgerfern_clip_ticks(clip_count, clips.as_ptr(), clips.len(), rate, turn, clip) }
+}
+
+pub fn window(clip_count: usize, clips: &[u64], clip: usize) -> Window {
+    unsafe { calls::ledgerfern_window(clip_count, clips.as_ptr(), clips.len(), clip) }
+}
+
+pub fn write(
+    text: &[u8],
+    head: Head,
+    clip_count: usize,
+    clips: &[u64],
+    tag_count: usize,
+    tags: &[u64],
+    out: &mut [u8],
+) -> Written {
+    unsafe {
+        calls::ledgerfern_write(
+            text.as_ptr(),
+            text.len(),
+            head,
+            clip_count,
+            clips.as_ptr(),
+            clips.len(),
+            tag_count,
+            tags.as_ptr(),
+            tags.len(),
+            out.as_mut_ptr(),
+            out.len(),
+        )
+    }
+}

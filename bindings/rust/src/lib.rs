@@ -1,0 +1,55 @@
+//! A proved reader of HLS media playlists, with an exact clock, in the shapes of m3u8-rs 6.0.1.
+//!
+//! The work is done by `libledgerfern.a`, whose calls are proved to answer every input, to end, and to touch only what
+//! they are lent. This crate lends them tables, and makes the values that a user of m3u8-rs knows of what comes back. It
+//! has no dependency, does not panic on any input, and its unsafe code is the six calls in `ffi`.
+//!
+//! ```no_run
+//! let text = std::fs::read("list.m3u8").unwrap_or_default();
+//! match ledgerfern::parse_media_playlist_res(&text) {
+//!     Ok(list) => {
+//!         for segment in &list.segments {
+//!             println!("{} {} ns", segment.uri, segment.duration_ns);
+//!         }
+//!         println!("clip 1 of turn 2: {:?}", list.clips().start_tick(100, 2, 1));
+//!     }
+//!     Err(refusal) => println!("{}", refusal),
+//! }
+//! ```
+//!
+//! # What differs from m3u8-rs
+//!
+//! - An error is a [`Refusal`]: a number and a place in the text. nom's error kinds are not there.
+//! - Some texts are refused that m3u8-rs reads: above 65,536 bytes, not UTF-8, master playlists, the tags KEY, START,
+//!   PROGRAM-DATE-TIME and DATERANGE with their colon, and lengths of over nine digits on a side. So the fields `key`,
+//!   `program_date_time` and `daterange` of a segment and `start` of a playlist are not there. Nor is the playlist's
+//!   `unknown_tags`, which m3u8-rs never fills: unknown tags are those of a segment.
+//! - A segment has its length as exact nanoseconds too, [`MediaSegment::duration_ns`].
+//! - A map keeps its attribute list as text, [`Map::attributes`], and not a `HashMap` of the attributes besides URI and
+//!   BYTERANGE.
+//! - Master playlists, `parse_playlist` and `WRITE_OPT_FLOAT_PRECISION` are left out.
+#![deny(unsafe_code)]
+#![forbid(unsafe_op_in_unsafe_fn)]
+#![warn(missing_docs)]
+// Nothing here can panic: no index, no sum that overflows, nothing unwrapped.
+#![warn(
+    clippy::indexing_slicing,
+    clippy::arithmetic_side_effects,
+    clippy::unwrap_used,
+    clippy::expect_used,
+    clippy::panic
+)]
+
+mod clock;
+#[allow(unsafe_code)]
+mod ffi;
+mod layout;
+mod parser;
+mod playlist;
+mod refusal;
+mod tables;
+
+pub use clock::Clips;
+pub use parser::{is_master_playlist, is_master_playlist_res, parse_media_playlist, parse_media_playlist_res};
+pub use playlist::{ByteRange, ExtTag, Map, MediaPlaylist, MediaPlaylistType, MediaSegment};
+pub use refusal::Refusal;

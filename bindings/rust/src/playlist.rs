@@ -1,0 +1,178 @@
+//! A media playlist as values, with the names that m3u8-rs gives them.
+use crate::{tables, Clips, Refusal};
+use std::fmt;
+use std::ops::Range;
+use std::str::FromStr;
+
+/// A media playlist: a list of segments, which the clock calls clips.
+#[derive(Debug, Default, PartialEq, Clone)]
+pub struct MediaPlaylist {
+    /// `#EXT-X-VERSION:<n>`
+    pub version: Option<usize>,
+    /// `#EXT-X-TARGETDURATION:<s>`
+    pub target_duration: u64,
+    /// `#EXT-X-MEDIA-SEQUENCE:<number>`
+    pub media_sequence: u64,
+    /// Its segments, in order.
+    pub segments: Vec<MediaSegment>,
+    /// `#EXT-X-DISCONTINUITY-SEQUENCE:<number>`
+    pub discontinuity_sequence: u64,
+    /// `#EXT-X-ENDLIST`
+    pub end_list: bool,
+    /// `#EXT-X-PLAYLIST-TYPE`
+    pub playlist_type: Option<MediaPlaylistType>,
+    /// `#EXT-X-I-FRAMES-ONLY`
+    pub i_frames_only: bool,
+    /// `#EXT-X-INDEPENDENT-SEGMENTS`
+    pub independent_segments: bool,
+}
+
+impl MediaPlaylist {
+    /// The table of its clips, for the clock and the window. Make it once where several answers are wanted.
+    pub fn clips(&self) -> Clips {
+        Clips::new(tables::pack(self).clips)
+    }
+
+    /// All lengths together, in ns.
+    pub fn total(&self) -> Result<u64, Refusal> {
+        self.clips().total()
+    }
+
+    /// The tick at which a clip starts in a turn ([`Clips::start_tick`]).
+    pub fn start_tick(&self, rate: u64, turn: u64, clip: usize) -> Result<u64, Refusal> {
+        self.clips().start_tick(rate, turn, clip)
+    }
+
+    /// A clip's ticks in a turn ([`Clips::clip_ticks`]).
+    pub fn clip_ticks(&self, rate: u64, turn: u64, clip: usize) -> Result<u64, Refusal> {
+        self.clips().clip_ticks(rate, turn, clip)
+    }
+
+    /// Its text, byte for byte as the library writes it. Refusals: 1 where its strings are above 65,536 bytes together; 9
+    /// where a length is 10^18 ns or more, or its two forms do not agree ([`MediaSegment::set_duration_ns`]).
+    pub fn to_text(&self) -> Result<Vec<u8>, Refusal> {
+        tables::pack(self).written()
+    }
+
+    /// Writes its text, as m3u8-rs does; what the library refuses is an error of the kind `InvalidData`.
+    pub fn write_to<T: std::io::Write>(&self, w: &mut T) -> std::io::Result<()> {
+        match self.to_text() {
+            Ok(text) => w.write_all(&text),
+            Err(refusal) => Err(std::io::Error::new(std::io::ErrorKind::InvalidData, refusal)),
+        }
+    }
+
+    /// The bytes of its resource that a clip's range names, if it has one ([`Clips::window`]).
+    pub fn window(&self, clip: usize) -> Result<Option<Range<u64>>, Refusal> {
+        self.clips().window(clip)
+    }
+}
+
+/// `#EXT-X-PLAYLIST-TYPE:<EVENT|VOD>`
+#[derive(Debug, Default, PartialEq, Eq, PartialOrd, Ord, Hash, Clone)]
+pub enum MediaPlaylistType {
+    /// `EVENT`
+    #[default]
+    Event,
+    /// `VOD`
+    Vod,
+    /// Another text.
+    Other(String),
+}
+
+impl FromStr for MediaPlaylistType {
+    type Err = String;
+
+    fn from_str(s: &str) -> Result<MediaPlaylistType, String> {
+        match s {
+            "EVENT" => Ok(MediaPlaylistType::Event),
+            "VOD" => Ok(MediaPlaylistType::Vod),
+            _ => Ok(MediaPlaylistType::Other(String::from(s))),
+        }
+    }
+}
+
+impl fmt::Display for MediaPlaylistType {
+    fn fmt(&self, f: &mut fmt::Formatter<'_>) -> fmt::Result {
+        f.write_str(match self {
+            MediaPlaylistType::Event => "EVENT",
+            MediaPlaylistType::Vod => "VOD",
+            MediaPlaylistType::Other(s) => s,
+        })
+    }
+}
+
+/// A segment: a URI, and what the tags before it say of it.
+#[derive(Debug, Default, PartialEq, Clone)]
+pub struct MediaSegment {
+    /// Its line.
+    pub uri: String,
+    /// `#EXTINF:<duration>,[<title>]`: the binary32 nearest to [`MediaSegment::duration_ns`], in seconds.
+    pub duration: f32,
+    /// `#EXTINF:<duration>,[<title>]`: the length in ns, exact. Clock and writer go by this one.
+    pub duration_ns: u64,
+    /// `#EXTINF:<duration>,[<title>]`
+    pub title: Option<String>,
+    /// `#EXT-X-BYTERANGE:<n>[@<o>]`
+    pub byte_range: Option<ByteRange>,
+    /// `#EXT-X-DISCONTINUITY`
+    pub discontinuity: bool,
+    /// `#EXT-X-MAP:<attribute-list>`
+    pub map: Option<Map>,
+    /// `#EXT-`
+    pub unknown_tags: Vec<ExtTag>,
+}
+
+impl MediaSegment {
+    /// A segment with neither URI nor tags.
+    pub fn empty() -> MediaSegment {
+        Default::default()
+    }
+
+    /// Sets both forms of the length. A segment whose two lengths do not agree is refused by the writer (9).
+    pub fn set_duration_ns(&mut self, ns: u64) {
+        self.duration_ns = ns;
+        // One correct rounding, that of the text: by way of an f64 there would be two.
+        let text = format!("{}.{:09}", ns / 1_000_000_000, ns % 1_000_000_000);
+        self.duration = text.parse().unwrap_or(0.0);
+    }
+}
+
+/// `#EXT-X-MAP:<attribute-list>`
+#[derive(Debug, Default, PartialEq, Eq, Clone)]
+pub struct Map {
+    /// The attribute URI.
+    pub uri: String,
+    /// The attribute BYTERANGE.
+    pub byte_range: Option<ByteRange>,
+    /// The whole attribute list as it stands in the text. It is not written: a map is written by its URI and range.
+    pub attributes: String,
+}
+
+/// `#EXT-X-BYTERANGE:<n>[@<o>]`
+#[derive(Debug, Default, PartialEq, Eq, Clone)]
+pub struct ByteRange {
+    /// How many bytes.
+    pub length: u64,
+    /// From which byte on.
+    pub offset: Option<u64>,
+}
+
+/// A simple `#EXT-` tag
+#[derive(Debug, Default, PartialEq, Eq, Clone)]
+pub struct ExtTag {
+    /// Its name, behind `#EXT-`.
+    pub tag: String,
+    /// What follows the colon, if there is any.
+    pub rest: Option<String>,
+}
+
+impl fmt::Display for ExtTag {
+    fn fmt(&self, f: &mut fmt::Formatter<'_>) -> fmt::Result {
+        write!(f, "#EXT-{}", self.tag)?;
+        if let Some(v) = &self.rest {
+            write!(f, ":{}", v)?;
+        }
+        Ok(())
+    }
+}

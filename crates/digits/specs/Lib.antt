@@ -1,0 +1,4 @@
+-- numbers and lengths as text
+pub mod Digits
+-- by computation
+pub mod Examples

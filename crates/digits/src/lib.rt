@@ -1,0 +1,49 @@
+// How many bytes a number and a length take as text (01, "Writing"). The texts themselves are in `specs/`; who has room for them writes them.
+ghost use mathlib.Core.Path.{_≡_};
+ghost use Prim.Native.Nat.{_≤_, _<_};
+ghost use lib.ListN.{length};
+ghost use Rattle.digits.specs.Digits.{second, numberText, fractionText, lengthText};
+
+// Ns in a second.
+pub const SECOND: u64 = 1_000_000_000;
+
+// One digit, and one more for each time that ten goes into what is left.
+pub fn number_size(n: u64) -> usize
+    ensures size { λ r. ⌜ r ≡ length (numberText n) ⌝ }
+    ensures most { λ r. ⌜ r ≤ 20 ⌝ }
+{
+    let mut size: usize = 1;
+    let mut left = n;
+    while 10 <= left {
+        left = left / 10;
+        size += 1;
+    }
+    size
+}
+
+// A point and nine digits, less the zeros at their end; nothing where all are zeros.
+fn fraction_size(f: u64) -> usize
+    requires { ⌜ f < second ⌝ }
+    ensures size { λ r. ⌜ r ≡ length (fractionText f) ⌝ }
+    ensures most { λ r. ⌜ r ≤ 10 ⌝ }
+{
+    if f == 0 {
+        return 0;
+    }
+    let mut size: usize = 9;
+    let mut left = f;
+    while left % 10 == 0 {
+        left = left / 10;
+        size -= 1;
+    }
+    size + 1
+}
+
+pub fn length_size(ns: u64) -> usize
+    ensures size { λ r. ⌜ r ≡ length (lengthText ns) ⌝ }
+    ensures most { λ r. ⌜ r ≤ 21 ⌝ }
+{
+    let whole = number_size(ns / SECOND);
+    let behind = fraction_size(ns % SECOND);
+    whole + behind
+}

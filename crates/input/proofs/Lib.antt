@@ -1,0 +1,2 @@
+-- bytes that a buffer holds
+pub mod Laws

@@ -1,0 +1,78 @@
+-- Numbers by computation over the definitions: a refusal, a head out and in, and numbers that no head has. Assumes nothing.
+use mathlib.Core.Path.{_≡_, refl}
+use mathlib.Core.Bool.{true, false}
+use mathlib.Core.List.{[], _∷_, map}
+use mathlib.Core.Option.{none, some}
+use Prim.Native.Nat.{ℕ}
+use Rattle.text.specs.Nom.{span}
+use Rattle.text.specs.BasicTags.{vod, other}
+use Rattle.tables.specs.Refusal.{refused, given, leftOutTag, noSuchClip}
+use Rattle.media.specs.Assembly.{head, emptyHead}
+use Rattle.window.specs.Window as window
+use Rattle.ledgerfern.specs.declared.Head as headᵈ
+use Rattle.ledgerfern.specs.Numbers.{verdictNumbers, valueNumbers, windowNumbers, headNumbers, readNumbers}
+use Rattle.ledgerfern.specs.Heads.{isVersion, isType, isHead, headOf}
+
+abbrev headᶻ : headᵈ.Head
+headᶻ = record {
+  «version_present» = 0;
+  version = 0;
+  «target_duration» = 0;
+  «media_sequence» = 0;
+  «discontinuity_sequence» = 0;
+  «playlist_type» = 0;
+  «type_start» = 0;
+  «type_end» = 0;
+  «end_list» = 0;
+  «i_frames_only» = 0;
+  «independent_segments» = 0;
+}
+
+-- * M`#EXT-X-KEY:METHOD=NONE\n`: 5 at 8, and zeros for all else
+refused-read : readNumbers (refused leftOutTag 8) ≡ record { number = 5; place = 8; clips = 0; tags = 0; stop = 0; head = headᶻ }
+refused-read = refl
+
+refused-value : valueNumbers (refused noSuchClip 0) ≡ record { number = 14; place = 0; value = 0 }
+refused-value = refl
+
+-- a media and a master playlist
+verdicts : map (λ m. verdictNumbers (given m)) (false ∷ true ∷ []) ≡ record { number = 0; place = 0; master = 0 } ∷ record { number = 0; place = 0; master = 1 } ∷ []
+verdicts = refl
+
+-- none is no range from 0 to 0
+windows : map (λ w. windowNumbers (given w)) (window.none ∷ window.range 0 0 ∷ [])
+    ≡ record { number = 0; place = 0; present = 0; start = 0; end = 0 } ∷ record { number = 0; place = 0; present = 1; start = 0; end = 0 } ∷ []
+windows = refl
+
+-- ---- a version of 0 is there; another text has its span
+abbrev headᵗ : headᵈ.Head
+headᵗ = record {
+  «version_present» = 1;
+  version = 0;
+  «target_duration» = 9;
+  «media_sequence» = 2;
+  «discontinuity_sequence» = 0;
+  «playlist_type» = 3;
+  «type_start» = 29;
+  «type_end» = 33;
+  «end_list» = 1;
+  «i_frames_only» = 0;
+  «independent_segments» = 0;
+}
+
+head-out : headNumbers (head (some 0) 9 2 0 (some (other (span 29 33))) true false false) ≡ headᵗ
+head-out = refl
+
+heads-in : map headOf (headᵗ ∷ headᶻ ∷ []) ≡ some (head (some 0) 9 2 0 (some (other (span 29 33))) true false false) ∷ some emptyHead ∷ []
+unfolding headOf isHead isVersion isType
+heads-in = refl
+
+-- a version beside an absent one
+no-versions : map (λ present. isVersion present 7) (0 ∷ 1 ∷ 2 ∷ []) ≡ false ∷ true ∷ false ∷ []
+unfolding isVersion
+no-versions = refl
+
+-- a span beside a type that has none; a type above 3
+no-types : map (λ type. isType type 0 5) (0 ∷ 1 ∷ 2 ∷ 3 ∷ 4 ∷ []) ≡ false ∷ false ∷ false ∷ true ∷ false ∷ []
+unfolding isType
+no-types = refl

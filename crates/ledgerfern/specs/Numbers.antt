@@ -1,0 +1,129 @@
+-- "A definition gives this paper's number and values for each of its cases": the numbers that the face hands out for each answer of the library.
+-- "A refusal returns its number, a place, and zeros for all else." Assumes nothing.
+use Prim.Native.Nat.{ℕ}
+use mathlib.Core.Path.{_≡_}
+use mathlib.Core.Bool.{Bool, true, false}
+use mathlib.Core.List.{List}
+use mathlib.Core.Option.{Option, none, some}
+use lib.ListN.{length}
+use Rattle.text.specs.Nom.{span}
+use Rattle.text.specs.BasicTags.{PlaylistType, event, vod, other}
+use Rattle.tables.specs.Refusal.{Answer, refused, given, number, place}
+use Rattle.media.specs.Assembly.{Head, head, emptyHead}
+use Rattle.media.specs.Words.{clipsWords, tagsWords}
+use Rattle.media.specs.Calls.{Read, read, parseMediaPlaylist, clipsRead, tagsRead, laid}
+use Rattle.window.specs.Window as window
+use Rattle.ledgerfern.specs.declared.Verdict as verdictᵈ
+use Rattle.ledgerfern.specs.declared.Head as headᵈ
+use Rattle.ledgerfern.specs.declared.Read as readᵈ
+use Rattle.ledgerfern.specs.declared.Value as valueᵈ
+use Rattle.ledgerfern.specs.declared.Window as windowᵈ
+use Rattle.ledgerfern.specs.declared.Written as writtenᵈ
+
+-- a mark: 1 or 0
+abbrev pub mark : Bool → ℕ
+mark true = 1
+mark false = 0
+
+-- what an answer gives, through f; 0 where it is refused
+abbrev pub orZero : {A : Type 0} → (A → ℕ) → Answer A → ℕ
+orZero f (refused r p) = 0
+orZero f (given a) = f a
+
+abbrev pub verdictNumbers : Answer Bool → verdictᵈ.Verdict
+verdictNumbers a = record { number = number a; place = place a; master = orZero mark a }
+
+-- ns or ticks
+abbrev pub valueNumbers : Answer ℕ → valueᵈ.Value
+valueNumbers a = record { number = number a; place = place a; value = orZero (λ n. n) a }
+
+-- how many bytes were written
+abbrev pub writtenNumbers : Answer ℕ → writtenᵈ.Written
+writtenNumbers a = record { number = number a; place = place a; length = orZero (λ n. n) a }
+
+-- "1 or 0 for a range, start, end"; "without a range, the answer none, start and end 0"
+abbrev pub rangePresent : window.Window → ℕ
+rangePresent window.none = 0
+rangePresent (window.range start end) = 1
+
+abbrev pub windowNumbers : Answer window.Window → windowᵈ.Window
+windowNumbers a = record {
+  number = number a;
+  place = place a;
+  present = orZero rangePresent a;
+  start = orZero window.startOf a;
+  end = orZero window.endOf a;
+}
+
+-- ---- the head: "version, present or not"
+abbrev pub presentNumber : Option ℕ → ℕ
+presentNumber none = 0
+presentNumber (some v) = 1
+
+abbrev pub versionNumber : Option ℕ → ℕ
+versionNumber none = 0
+versionNumber (some v) = v
+
+-- "playlist type, absent, EVENT, VOD or another text's span"
+abbrev pub typeNumber : Option PlaylistType → ℕ
+typeNumber none = 0
+typeNumber (some event) = 1
+typeNumber (some vod) = 2
+typeNumber (some (other s)) = 3
+
+abbrev pub typeStart : Option PlaylistType → ℕ
+typeStart none = 0
+typeStart (some event) = 0
+typeStart (some vod) = 0
+typeStart (some (other (span a b))) = a
+
+abbrev pub typeEnd : Option PlaylistType → ℕ
+typeEnd none = 0
+typeEnd (some event) = 0
+typeEnd (some vod) = 0
+typeEnd (some (other (span a b))) = b
+
+abbrev pub headNumbers : Head → headᵈ.Head
+headNumbers (head v d m c p e i n) = record {
+  «version_present» = presentNumber v;
+  version = versionNumber v;
+  «target_duration» = d;
+  «media_sequence» = m;
+  «discontinuity_sequence» = c;
+  «playlist_type» = typeNumber p;
+  «type_start» = typeStart p;
+  «type_end» = typeEnd p;
+  «end_list» = mark e;
+  «i_frames_only» = mark i;
+  «independent_segments» = mark n;
+}
+
+-- ---- the reader: the empty head's numbers are zeros
+abbrev pub headGiven : Answer Read → Head
+headGiven (refused r p) = emptyHead
+headGiven (given (read h c t n)) = h
+
+abbrev pub clipsGiven : Read → ℕ
+clipsGiven (read h c t n) = c
+
+abbrev pub tagsGiven : Read → ℕ
+tagsGiven (read h c t n) = t
+
+abbrev pub stopGiven : Read → ℕ
+stopGiven (read h c t n) = n
+
+abbrev pub readNumbers : Answer Read → readᵈ.Read
+readNumbers a = record {
+  number = number a;
+  place = place a;
+  clips = orZero clipsGiven a;
+  tags = orZero tagsGiven a;
+  stop = orZero stopGiven a;
+  head = headNumbers (headGiven a);
+}
+
+-- all that the call says: its numbers, and each word of both tables after it
+pub record ReadAs (text clips₀ tags₀ clips tags : List ℕ) (r : readᵈ.Read) : Type 0 where
+  pub answered : r ≡ readNumbers (parseMediaPlaylist text (length clips₀) (length tags₀))
+  pub clips-after : clips ≡ laid (parseMediaPlaylist text (length clips₀) (length tags₀)) (clipsWords (clipsRead text)) clips₀
+  pub tags-after : tags ≡ laid (parseMediaPlaylist text (length clips₀) (length tags₀)) (tagsWords (tagsRead text)) tags₀

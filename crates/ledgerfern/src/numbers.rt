@@ -1,0 +1,226 @@
+// An answer's numbers: number and place, then its values, all zero where it is refused.
+use crate::Head;
+use crate::Read;
+use crate::Value;
+use crate::Verdict;
+use crate::Window;
+use crate::Written;
+use media::ParseAnswer;
+use media::head;
+use media::head::HeadType;
+use media::head::Version;
+use playlist::WriteAnswer;
+use tables::Refusal;
+use text::basic_tags::PlaylistType;
+use verdict::MasterAnswer;
+ghost use mathlib.Core.Path.{_≡_};
+ghost use Rattle.verdict.specs.Answers.{masterAnswer};
+ghost use Rattle.media.specs.Answers.{versionOf, headTypeOf, headSeen, parseAnswer};
+ghost use Rattle.clock.specs.Answers as clock;
+ghost use Rattle.window.specs.Answers as window;
+ghost use mathlib.Core.Option.{none};
+ghost use mathlib.Core.List.{List};
+ghost use Prim.Native.Nat.{ℕ};
+ghost use Rattle.playlist.specs.Answers.{writeAnswer};
+ghost use Rattle.ledgerfern.specs.Write.{writeWith};
+ghost use Rattle.ledgerfern.specs.Numbers as rule;
+
+fn mark(holds: bool) -> u64
+    ensures { λ r. ⌜ r ≡ rule.mark holds ⌝ }
+{
+    if holds { 1 } else { 0 }
+}
+
+pub fn of_verdict(given: MasterAnswer) -> Verdict
+    ensures { λ r. ⌜ r ≡ rule.verdictNumbers (masterAnswer given) ⌝ }
+{
+    match given {
+        MasterAnswer::Refused(r, place) => Verdict {
+            number: r.number(),
+            place: place as u64,
+            master: 0,
+        },
+        MasterAnswer::Given(master) => Verdict {
+            number: 0,
+            place: 0,
+            master: mark(master),
+        },
+    }
+}
+
+// An answer of the clock, whose refusals have no place.
+pub fn of_value(given: clock::Answer) -> Value
+    ensures { λ r. ⌜ r ≡ rule.valueNumbers (clock.answerOf given) ⌝ }
+{
+    match given {
+        clock::Answer::Refused(r) => Value {
+            number: r.number(),
+            place: 0,
+            value: 0,
+        },
+        clock::Answer::Given(value) => Value {
+            number: 0,
+            place: 0,
+            value,
+        },
+    }
+}
+
+// An answer of the window, whose refusals have no place.
+pub fn of_window(given: window::Answer) -> Window
+    ensures { λ r. ⌜ r ≡ rule.windowNumbers (window.answerOf given) ⌝ }
+{
+    match given {
+        window::Answer::Refused(r) => Window {
+            number: r.number(),
+            place: 0,
+            present: 0,
+            start: 0,
+            end: 0,
+        },
+        window::Answer::None => Window {
+            number: 0,
+            place: 0,
+            present: 0,
+            start: 0,
+            end: 0,
+        },
+        window::Answer::Range { start, end } => Window {
+            number: 0,
+            place: 0,
+            present: 1,
+            start,
+            end,
+        },
+    }
+}
+
+fn version_present(v: Version) -> u64
+    ensures { λ r. ⌜ r ≡ rule.presentNumber (versionOf v) ⌝ }
+{
+    match v {
+        Version::Absent => 0,
+        Version::Is(_) => 1,
+    }
+}
+
+fn version_number(v: Version) -> u64
+    ensures { λ r. ⌜ r ≡ rule.versionNumber (versionOf v) ⌝ }
+{
+    match v {
+        Version::Absent => 0,
+        Version::Is(n) => n,
+    }
+}
+
+fn type_number(t: HeadType) -> u64
+    ensures { λ r. ⌜ r ≡ rule.typeNumber (headTypeOf t) ⌝ }
+{
+    match t {
+        HeadType::Absent => 0,
+        HeadType::Is(t) => match t {
+            PlaylistType::Event => 1,
+            PlaylistType::Vod => 2,
+            PlaylistType::Other(_) => 3,
+        },
+    }
+}
+
+fn type_start(t: HeadType) -> u64
+    ensures { λ r. ⌜ r ≡ rule.typeStart (headTypeOf t) ⌝ }
+{
+    match t {
+        HeadType::Absent => 0,
+        HeadType::Is(t) => match t {
+            PlaylistType::Event => 0,
+            PlaylistType::Vod => 0,
+            PlaylistType::Other(span) => span.start as u64,
+        },
+    }
+}
+
+fn type_end(t: HeadType) -> u64
+    ensures { λ r. ⌜ r ≡ rule.typeEnd (headTypeOf t) ⌝ }
+{
+    match t {
+        HeadType::Absent => 0,
+        HeadType::Is(t) => match t {
+            PlaylistType::Event => 0,
+            PlaylistType::Vod => 0,
+            PlaylistType::Other(span) => span.end as u64,
+        },
+    }
+}
+
+pub fn of_head(h: head::Head) -> Head
+    ensures { λ r. ⌜ r ≡ rule.headNumbers (headSeen h) ⌝ }
+{
+    let version = h.version;
+    let playlist_type = h.playlist_type;
+    Head {
+        version_present: version_present(version),
+        version: version_number(version),
+        target_duration: h.target_duration,
+        media_sequence: h.media_sequence,
+        discontinuity_sequence: h.discontinuity_sequence,
+        playlist_type: type_number(playlist_type),
+        type_start: type_start(playlist_type),
+        type_end: type_end(playlist_type),
+        end_list: mark(h.end_list),
+        i_frames_only: mark(h.i_frames_only),
+        independent_segments: mark(h.independent_segments),
+    }
+}
+
+pub fn of_read(given: ParseAnswer) -> Read
+    ensures { λ r. ⌜ r ≡ rule.readNumbers (parseAnswer given) ⌝ }
+{
+    match given {
+        ParseAnswer::Refused(r, at) => Read {
+            number: r.number(),
+            place: at as u64,
+            clips: 0,
+            tags: 0,
+            stop: 0,
+            head: of_head(head::Head::empty()),
+        },
+        ParseAnswer::Given(given) => {
+            let head = given.head;
+            Read {
+                number: 0,
+                place: 0,
+                clips: given.clips as u64,
+                tags: given.tags as u64,
+                stop: given.stop as u64,
+                head: of_head(head),
+            }
+        }
+    }
+}
+
+pub fn of_written(given: WriteAnswer) -> Written
+    ensures { λ r. ⌜ r ≡ rule.writtenNumbers (writeAnswer given) ⌝ }
+{
+    match given {
+        WriteAnswer::Refused(r) => Written {
+            number: r.number(),
+            place: 0,
+            length: 0,
+        },
+        WriteAnswer::Written(length) => Written {
+            number: 0,
+            place: 0,
+            length: length as u64,
+        },
+    }
+}
+
+// Where no head has the numbers, whatever the tables and the output: 1 comes before 9.
+pub fn of_no_head(text: &[u8]) -> Written
+    ensures { λ r. ⌜ ((clips : List ℕ) (n : ℕ) (tags : List ℕ) (m room : ℕ) → r ≡ rule.writtenNumbers (writeWith (now (text .entry)) clips n tags m none room)) ⌝ }
+{
+    if verdict::TEXT_LIMIT < text.len() {
+        return of_written(WriteAnswer::Refused(Refusal::TextTooLong));
+    }
+    of_written(WriteAnswer::Refused(Refusal::BrokenTable))
+}

@@ -1,0 +1,57 @@
+-- No second clip fits `clip_at`, and no second tag `tag_at`: what each says has a way back to it. `keeps_rule`'s promise names its answer. Assumes nothing.
+use Prim.Native.Nat.{ℕ}
+use mathlib.Core.Path.{_≡_, refl, sym, ap, _∙_}
+use mathlib.Core.Bool.{Bool}
+use mathlib.Core.List.{List}
+use Rattle.text.specs.Answers.{extTagOf}
+use Rattle.text.specs.declared.basic_tags.ExtTag as extᵈ
+use Rattle.text.proofs.Only.{Only, no-second, span-only, part-only, byte-range-only, ext-tag-only}
+use Rattle.attributes.specs.declared.ext_map.OptRange.the-variants as rangeᵛ
+use Rattle.attributes.specs.Answers.{rangeAt}
+use Rattle.attributes.proofs.Only.{map-only}
+use Rattle.media.specs.declared.segment.SegmentMap.the-variants as mapᵛ
+use Rattle.media.specs.declared.state.Clip as clipᵈ
+use Rattle.media.specs.Answers.{segmentMapOf, segmentSeen, clipSeen}
+use Rattle.media.specs.Assembly.{Head}
+use Rattle.records.specs.Records.{clipAt, tagAt}
+use Rattle.records.specs.Rule9.{keepsRule}
+
+range-only : Only rangeAt
+range-only rangeᵛ.Absent rangeᵛ.Absent e = refl
+range-only rangeᵛ.Absent (rangeᵛ.Present s) e = cc
+range-only (rangeᵛ.Present r) rangeᵛ.Absent e = cc
+range-only (rangeᵛ.Present r) (rangeᵛ.Present s) e = ap rangeᵛ.Present (byte-range-only r s (cc))
+
+segment-map-only : Only segmentMapOf
+segment-map-only mapᵛ.Absent mapᵛ.Absent e = refl
+segment-map-only mapᵛ.Absent (mapᵛ.Is n) e = cc
+segment-map-only (mapᵛ.Is m) mapᵛ.Absent e = cc
+segment-map-only (mapᵛ.Is m) (mapᵛ.Is n) e = ap mapᵛ.Is (map-only m n (cc))
+
+pub segment-only : Only segmentSeen
+segment-only a b e =
+    let length : a .length ≡ b .length = cc in
+    let title : a .title ≡ b .title = part-only (a .title) (b .title) (cc) in
+    let range : a .«byte_range» ≡ b .«byte_range» = range-only (a .«byte_range») (b .«byte_range») (cc) in
+    let discontinuity : a .discontinuity ≡ b .discontinuity = cc in
+    let map : a .map ≡ b .map = segment-map-only (a .map) (b .map) (cc) in
+    λ i. record { length = length i; title = title i; «byte_range» = range i; discontinuity = discontinuity i; map = map i }
+
+pub clip-only : Only clipSeen
+clip-only a b e =
+    let uri : a .uri ≡ b .uri = span-only (a .uri) (b .uri) (cc) in
+    let segment : a .segment ≡ b .segment = segment-only (a .segment) (b .segment) (cc) in
+    let first : a .first ≡ b .first = cc in
+    let count : a .count ≡ b .count = cc in
+    λ i. record { uri = uri i; segment = segment i; first = first i; count = count i }
+
+-- ---- two results at the same table and index
+module _ (t : List ℕ) (k : ℕ) where
+  pub clip-once : (a b : clipᵈ.Clip) → clipSeen a ≡ clipAt t k → clipSeen b ≡ clipAt t k → a ≡ b
+  clip-once = no-second clipSeen clip-only (clipAt t k)
+
+  pub tag-once : (a b : extᵈ.ExtTag) → extTagOf a ≡ tagAt t k → extTagOf b ≡ tagAt t k → a ≡ b
+  tag-once = no-second extTagOf ext-tag-only (tagAt t k)
+
+pub rule-once : (text : List ℕ) (h : Head) (clips : List ℕ) (n : ℕ) (tags : List ℕ) (m : ℕ) (a b : Bool) → a ≡ keepsRule text h clips n tags m → b ≡ keepsRule text h clips n tags m → a ≡ b
+rule-once text h clips n tags m a b p q = p ∙ sym q

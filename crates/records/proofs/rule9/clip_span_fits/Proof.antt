@@ -1,0 +1,20 @@
+-- `rule9::clip_span_fits`: the span of the words that were read. Assumes nothing.
+use borrow.Author.Needs.{needs}
+use Rattle.records.proofs.rule9.clip_span_fits.Statement.{statement}
+use Rattle.records.proofs.rule9.clip_span_fits.Tie as tie
+
+clip-word-requires : tie.Need-clip-word-requires
+clip-word-requires c κs = search needs
+
+clip-word-requires-2 : tie.Need-clip-word-requires-2
+clip-word-requires-2 c κs = search needs
+
+span-fits-requires : tie.Need-span-fits-requires
+span-fits-requires c κs = search needs
+
+returns : tie.Need-returns
+returns c = rw (← c .before .before .clip-word .ensures, ← c .before .clip-word2 .ensures) (c .span-fits .ensures)
+
+pub clip-span-fits-spec : {M : Type 1} → statement M
+clip-span-fits-spec =
+    tie.close (tie.spec clip-word-requires clip-word-requires-2 span-fits-requires returns)

@@ -1,0 +1,35 @@
+-- `rule9::plain_keep`: the rule, test by test, at the words that were read. Assumes nothing.
+use borrow.Author.Needs.{needs}
+use Rattle.records.specs.Rule9.{plainKeep}
+use Rattle.records.proofs.rule9.plain_keep.Statement.{statement}
+use Rattle.records.proofs.rule9.plain_keep.Tie as tie
+
+clip-span-fits-requires : tie.Need-clip-span-fits-requires
+clip-span-fits-requires c κs = search needs
+
+clip-word-requires : tie.Need-clip-word-requires
+clip-word-requires c κs = search needs
+
+clip-word-requires-2 : tie.Need-clip-word-requires-2
+clip-word-requires-2 c κs = search needs
+
+seconds-bits-requires : tie.Need-seconds-bits-requires
+seconds-bits-requires c κs = search needs
+
+clip-span-fits-requires-2 : tie.Need-clip-span-fits-requires-2
+clip-span-fits-requires-2 c κs = search needs
+
+returns : tie.Need-returns
+unfolding plainKeep
+returns c = rw (← c .before .before .before .clip-word .ensures, ← c .before .before .clip-word2 .ensures, ← c .before .seconds-bits .ensures, ← c .before .before .before .before .clip-span-fits .ensures, ← c .clip-span-fits2 .ensures)
+
+pub plain-keep-spec : {M : Type 1} → statement M
+plain-keep-spec =
+    tie.close
+    (tie.spec
+    clip-span-fits-requires
+    clip-word-requires
+    clip-word-requires-2
+    seconds-bits-requires
+    clip-span-fits-requires-2
+    returns)

@@ -1,0 +1,194 @@
+// Rule 9 of the writer: counts that fit, spans within the text, lengths with their bits, flags, zeros for what is absent, runs of tags that adjoin.
+// One pass over each table, and each function is one clause of the rule. A record's tests are joined by `&`: a table that is to be written passes them
+// all, so that none is worth a branch.
+use lengths::binary32;
+use media::head::Head;
+use media::head::HeadType;
+use tables::layout;
+use tables::record;
+use text::basic_tags::PlaylistType;
+ghost use mathlib.Core.Path.{_≡_};
+ghost use mathlib.Core.Bool.{_&&_};
+ghost use mathlib.Core.List.{List};
+ghost use Prim.Native.Nat.{ℕ};
+ghost use Rattle.tables.specs.Layout as layout;
+ghost use Rattle.tables.specs.Table.{every, clipWord};
+ghost use Rattle.media.specs.Answers.{headSeen};
+ghost use Rattle.records.specs.Rule9 as rule;
+
+// Start <= end <= text length.
+fn span_fits(text: &[u8], start: u64, end: u64) -> bool
+    ensures { λ r. ⌜ r ≡ rule.spanFits (now (text .entry)) start end ⌝ }
+{
+    (start <= end) & (end <= text.len() as u64)
+}
+
+// A type that is another text is a span.
+fn head_fits(text: &[u8], head: Head) -> bool
+    ensures { λ r. ⌜ r ≡ rule.headFits (now (text .entry)) (headSeen head) ⌝ }
+{
+    let t = head.playlist_type;
+    match t {
+        HeadType::Absent => true,
+        HeadType::Is(t) => match t {
+            PlaylistType::Event => true,
+            PlaylistType::Vod => true,
+            PlaylistType::Other(s) => span_fits(text, s.start as u64, s.end as u64),
+        },
+    }
+}
+
+// A flag only with another.
+fn only_with(flags: u64, flag: u64, with: u64) -> bool
+    ensures { λ r. ⌜ r ≡ rule.onlyWith flags flag with ⌝ }
+{
+    !record::has_flag(flags, flag) | record::has_flag(flags, with)
+}
+
+fn flags_keep(flags: u64) -> bool
+    ensures { λ r. ⌜ r ≡ rule.flagsKeep flags ⌝ }
+{
+    let range_offset = only_with(flags, layout::HAS_RANGE_OFFSET, layout::HAS_RANGE);
+    let map_range = only_with(flags, layout::HAS_MAP_RANGE, layout::HAS_MAP);
+    let map_offset = only_with(flags, layout::HAS_MAP_OFFSET, layout::HAS_MAP_RANGE);
+    (flags < layout::FLAG_LIMIT) & (range_offset & (map_range & map_offset))
+}
+
+// The span whose words stand at two places of clip k.
+fn clip_span_fits(text: &[u8], clips: &[u64], k: usize, start: usize, end: usize) -> bool
+    ensures { λ r. ⌜ r ≡ rule.spanFits (now (text .entry)) (clipWord (now (clips .entry)) k start) (clipWord (now (clips .entry)) k end) ⌝ }
+{
+    let from = record::clip_word(clips, k, start);
+    let to = record::clip_word(clips, k, end);
+    span_fits(text, from, to)
+}
+
+// A word of clip k that belongs to a flag: without it the word is zero.
+fn zero_without(clips: &[u64], k: usize, flag: u64, place: usize) -> bool
+    ensures { λ r. ⌜ r ≡ rule.zeroWithout (clipWord (now (clips .entry)) k layout.flags) flag (clipWord (now (clips .entry)) k place) ⌝ }
+{
+    let flags = record::clip_word(clips, k, layout::FLAGS);
+    let word = record::clip_word(clips, k, place);
+    record::has_flag(flags, flag) | (word == 0)
+}
+
+// The words that stand for themselves: URI, length, bits, title.
+fn plain_keep(text: &[u8], clips: &[u64], k: usize) -> bool
+    ensures { λ r. ⌜ r ≡ rule.plainKeep (now (text .entry)) (now (clips .entry)) k ⌝ }
+{
+    let uri = clip_span_fits(text, clips, k, layout::URI_START, layout::URI_END);
+    let length = record::clip_word(clips, k, layout::LENGTH);
+    let bits = record::clip_word(clips, k, layout::BITS);
+    let nearest = binary32::seconds_bits(length);
+    let title = clip_span_fits(text, clips, k, layout::TITLE_START, layout::TITLE_END);
+    uri & ((length < layout::LENGTH_LIMIT) & ((bits == nearest) & title))
+}
+
+// The words of its range, whatever the text.
+fn range_keeps(clips: &[u64], k: usize) -> bool
+    ensures { λ r. ⌜ ((text : List ℕ) → r ≡ rule.rangeKeeps text (now (clips .entry)) k) ⌝ }
+{
+    let length = zero_without(clips, k, layout::HAS_RANGE, layout::RANGE_LENGTH);
+    let offset = zero_without(clips, k, layout::HAS_RANGE_OFFSET, layout::RANGE_OFFSET);
+    length & offset
+}
+
+// The words of its map.
+fn map_keeps(text: &[u8], clips: &[u64], k: usize) -> bool
+    ensures { λ r. ⌜ r ≡ rule.mapKeeps (now (text .entry)) (now (clips .entry)) k ⌝ }
+{
+    let uri = clip_span_fits(text, clips, k, layout::MAP_URI_START, layout::MAP_URI_END);
+    let list = clip_span_fits(text, clips, k, layout::MAP_LIST_START, layout::MAP_LIST_END);
+    let uri_start = zero_without(clips, k, layout::HAS_MAP, layout::MAP_URI_START);
+    let uri_end = zero_without(clips, k, layout::HAS_MAP, layout::MAP_URI_END);
+    let list_start = zero_without(clips, k, layout::HAS_MAP, layout::MAP_LIST_START);
+    let list_end = zero_without(clips, k, layout::HAS_MAP, layout::MAP_LIST_END);
+    let length = zero_without(clips, k, layout::HAS_MAP_RANGE, layout::MAP_RANGE_LENGTH);
+    let offset = zero_without(clips, k, layout::HAS_MAP_OFFSET, layout::MAP_RANGE_OFFSET);
+    uri & (list & (uri_start & (uri_end & (list_start & (list_end & (length & offset))))))
+}
+
+fn clip_keeps(text: &[u8], clips: &[u64], k: usize) -> bool
+    ensures { λ r. ⌜ r ≡ rule.clipKeeps (now (text .entry)) (now (clips .entry)) k ⌝ }
+{
+    let plain = plain_keep(text, clips, k);
+    let flags = flags_keep(record::clip_word(clips, k, layout::FLAGS));
+    let range = range_keeps(clips, k);
+    let map = map_keeps(text, clips, k);
+    plain & (flags & (range & map))
+}
+
+fn tag_keeps(text: &[u8], tags: &[u64], k: usize) -> bool
+    ensures { λ r. ⌜ r ≡ rule.tagKeeps (now (text .entry)) (now (tags .entry)) k ⌝ }
+{
+    let name_start = record::tag_word(tags, k, layout::NAME_START);
+    let name_end = record::tag_word(tags, k, layout::NAME_END);
+    let rest_start = record::tag_word(tags, k, layout::REST_START);
+    let rest_end = record::tag_word(tags, k, layout::REST_END);
+    span_fits(text, name_start, name_end) & span_fits(text, rest_start, rest_end)
+}
+
+// Each clip, and the runs of their tags. `first` is where the next run begins: a run's count is compared with the tags that are left, so that no table
+// makes the sum overflow.
+fn clips_keep(text: &[u8], clips: &[u64], clip_count: usize, tag_count: u64) -> bool
+    ensures { λ r. ⌜ r ≡ every (rule.clipKeeps (now (text .entry)) (now (clips .entry))) «clip_count» && rule.runsAdjoin (now (clips .entry)) «clip_count» «tag_count» ⌝ }
+{
+    let mut first: u64 = 0;
+    let mut k: usize = 0;
+    while k < clip_count {
+        if !clip_keeps(text, clips, k) {
+            return false;
+        }
+        let start = record::clip_word(clips, k, layout::FIRST_TAG);
+        if start != first {
+            return false;
+        }
+        let count = record::clip_word(clips, k, layout::TAG_COUNT);
+        let left = tag_count - first;
+        if left < count {
+            return false;
+        }
+        first += count;
+        k += 1;
+    }
+    first == tag_count
+}
+
+fn tags_keep(text: &[u8], tags: &[u64], tag_count: usize) -> bool
+    ensures { λ r. ⌜ r ≡ every (rule.tagKeeps (now (text .entry)) (now (tags .entry))) «tag_count» ⌝ }
+{
+    let mut k: usize = 0;
+    while k < tag_count {
+        if !tag_keeps(text, tags, k) {
+            return false;
+        }
+        k += 1;
+    }
+    true
+}
+
+// The whole rule. The counts come first: past the table's end every word is 0, and a count that does not fit would be walked to its end.
+pub fn keeps_rule(
+    text: &[u8],
+    head: Head,
+    clips: &[u64],
+    clip_count: usize,
+    tags: &[u64],
+    tag_count: usize,
+) -> bool
+    ensures { λ r. ⌜ r ≡ rule.keepsRule (now (text .entry)) (headSeen head) (now (clips .entry)) «clip_count» (now (tags .entry)) «tag_count» ⌝ }
+{
+    if !record::clips_fit(clips, clip_count) {
+        return false;
+    }
+    if !record::tags_fit(tags, tag_count) {
+        return false;
+    }
+    if !head_fits(text, head) {
+        return false;
+    }
+    if !clips_keep(text, clips, clip_count, tag_count as u64) {
+        return false;
+    }
+    tags_keep(text, tags, tag_count)
+}

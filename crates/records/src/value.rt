@@ -1,0 +1,153 @@
+// A clip and an unknown tag by value, out of their words: the way back from what a reading stored.
+use attributes::ext_map::Map;
+use attributes::ext_map::OptRange;
+use media::segment::Segment;
+use media::segment::SegmentMap;
+use media::state::Clip;
+use tables::layout;
+use tables::record;
+use text::Part;
+use text::Span;
+use text::basic_tags::ExtTag;
+use text::util::ByteRange;
+use text::util::Offset;
+ghost use mathlib.Core.Path.{_≡_};
+ghost use Rattle.text.specs.Nom.{span};
+ghost use Rattle.text.specs.Answers.{spanOf, partOf, offsetOf, extTagOf};
+ghost use Rattle.attributes.specs.Answers.{rangeAt};
+ghost use Rattle.tables.specs.Layout as layout;
+ghost use Rattle.tables.specs.Table.{clipWord, hasFlag};
+ghost use Rattle.media.specs.Answers.{segmentMapOf, clipSeen};
+ghost use Rattle.records.specs.Records as rule;
+
+// A title or a rest is there unless both its words are zero.
+fn part_at(start: u64, end: u64) -> Part
+    ensures { λ r. ⌜ partOf r ≡ rule.partAt start end ⌝ }
+{
+    if start == 0 {
+        if end == 0 {
+            return Part::Absent;
+        }
+    }
+    Part::Present(Span {
+        start: start as usize,
+        end: end as usize,
+    })
+}
+
+fn offset_at(flags: u64, flag: u64, offset: u64) -> Offset
+    ensures { λ r. ⌜ offsetOf r ≡ rule.optional (hasFlag flags flag) offset ⌝ }
+{
+    if record::has_flag(flags, flag) {
+        return Offset::At(offset);
+    }
+    Offset::Absent
+}
+
+// `present` is the flag of the range, `with_offset` that of its offset.
+fn range_at(flags: u64, present: u64, with_offset: u64, length: u64, offset: u64) -> OptRange
+    ensures { λ r. ⌜ rangeAt r ≡ rule.rangeAt flags present «with_offset» length offset ⌝ }
+{
+    if !record::has_flag(flags, present) {
+        return OptRange::Absent;
+    }
+    let offset = offset_at(flags, with_offset, offset);
+    OptRange::Present(ByteRange { length, offset })
+}
+
+// The span whose words stand at two places of clip k.
+fn clip_span(clips: &[u64], k: usize, start: usize, end: usize) -> Span
+    ensures { λ r. ⌜ spanOf r ≡ span (clipWord (now (clips .entry)) k start) (clipWord (now (clips .entry)) k end) ⌝ }
+{
+    let from = record::clip_word(clips, k, start);
+    let to = record::clip_word(clips, k, end);
+    Span {
+        start: from as usize,
+        end: to as usize,
+    }
+}
+
+fn map_at(clips: &[u64], k: usize) -> SegmentMap
+    ensures { λ r. ⌜ segmentMapOf r ≡ rule.mapAt (now (clips .entry)) k ⌝ }
+{
+    let flags = record::clip_word(clips, k, layout::FLAGS);
+    if !record::has_flag(flags, layout::HAS_MAP) {
+        return SegmentMap::Absent;
+    }
+    let uri = clip_span(clips, k, layout::MAP_URI_START, layout::MAP_URI_END);
+    let list = clip_span(clips, k, layout::MAP_LIST_START, layout::MAP_LIST_END);
+    let length = record::clip_word(clips, k, layout::MAP_RANGE_LENGTH);
+    let offset = record::clip_word(clips, k, layout::MAP_RANGE_OFFSET);
+    let byte_range = range_at(
+        flags,
+        layout::HAS_MAP_RANGE,
+        layout::HAS_MAP_OFFSET,
+        length,
+        offset,
+    );
+    SegmentMap::Is(Map {
+        uri,
+        byte_range,
+        list,
+    })
+}
+
+fn title_at(clips: &[u64], k: usize) -> Part
+    ensures { λ r. ⌜ partOf r ≡ rule.partAt (clipWord (now (clips .entry)) k layout.titleStart) (clipWord (now (clips .entry)) k layout.titleEnd) ⌝ }
+{
+    let start = record::clip_word(clips, k, layout::TITLE_START);
+    let end = record::clip_word(clips, k, layout::TITLE_END);
+    part_at(start, end)
+}
+
+// Clip k of a table.
+pub fn clip_at(clips: &[u64], k: usize) -> Clip
+    ensures { λ r. ⌜ clipSeen r ≡ rule.clipAt (now (clips .entry)) k ⌝ }
+{
+    let uri = clip_span(clips, k, layout::URI_START, layout::URI_END);
+    let title = title_at(clips, k);
+    let flags = record::clip_word(clips, k, layout::FLAGS);
+    let length = record::clip_word(clips, k, layout::RANGE_LENGTH);
+    let offset = record::clip_word(clips, k, layout::RANGE_OFFSET);
+    let byte_range = range_at(
+        flags,
+        layout::HAS_RANGE,
+        layout::HAS_RANGE_OFFSET,
+        length,
+        offset,
+    );
+    let map = map_at(clips, k);
+    let segment = Segment {
+        length: record::clip_word(clips, k, layout::LENGTH),
+        title,
+        byte_range,
+        discontinuity: record::has_flag(flags, layout::HAS_DISCONTINUITY),
+        map,
+    };
+    let first = record::clip_word(clips, k, layout::FIRST_TAG);
+    let count = record::clip_word(clips, k, layout::TAG_COUNT);
+    Clip {
+        uri,
+        segment,
+        first: first as usize,
+        count: count as usize,
+    }
+}
+
+// Unknown tag k of a table.
+pub fn tag_at(tags: &[u64], k: usize) -> ExtTag
+    ensures { λ r. ⌜ extTagOf r ≡ rule.tagAt (now (tags .entry)) k ⌝ }
+{
+    let start = record::tag_word(tags, k, layout::NAME_START);
+    let end = record::tag_word(tags, k, layout::NAME_END);
+    let rest_start = record::tag_word(tags, k, layout::REST_START);
+    let rest_end = record::tag_word(tags, k, layout::REST_END);
+    let rest = part_at(rest_start, rest_end);
+    ExtTag {
+        tag: Span {
+            start: start as usize,
+            end: end as usize,
+        },
+        rest,
+    }
+}

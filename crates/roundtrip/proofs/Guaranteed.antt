@@ -1,0 +1,151 @@
+-- What the reader guarantees of the list that it gives: by induction on its steps, head, clips and unknown tags are sound, part by part. Assumes nothing.
+use Prim.Native.Nat.{ℕ, zero, suc, _<_}
+use mathlib.Core.List.{List, [], _∷_}
+use mathlib.Core.Option.{Option}
+use native.Mathlib.Omega.{arith}
+use lib.ListN.{take}
+use Rattle.text.specs.Nom.{Span, bytes, isOneOf, isNoneOf}
+use Rattle.text.specs.Util.{ByteRange}
+use Rattle.text.specs.BasicTags.{ExtTag, PlaylistType}
+use Rattle.text.proofs.Ahead.{Stops}
+use Rattle.attributes.specs.ExtMap.{Map}
+use Rattle.lengths.specs.Duration.{ns, tooManyDigits, extinf}
+use Rattle.tables.specs.Layout.{lengthLimit}
+use Rattle.tags.specs.Tags.{HeadTag, version, targetDuration, mediaSequence, discontinuitySequence, typed, iFramesOnly, independentSegments, endList, ClipTag, timed, ranged, discontinuity, mapped, Tag, ofHead, ofClip, unknown, comment, uri, leftOut, Taken, took}
+use Rattle.media.specs.Assembly.{Head, head, headNext, Segment, segment, segmentNext, State, state, begin, next, Clip, clip, clipIn, tagIn, lastOf, clipsOf, tagsOf, headOf, keptTags}
+use Rattle.media.specs.Calls.{stepsOf, clipsRead, tagsRead}
+use Rattle.records.specs.Same.{shown}
+use Rattle.records.proofs.Back.{All, all-append}
+use Rattle.roundtrip.proofs.Said.{NumbersFit}
+use Rattle.roundtrip.proofs.Gives.{If, Shows, Small}
+use Rattle.roundtrip.proofs.Values.{SoundType, SoundExt, SoundMap}
+use Rattle.roundtrip.proofs.Sound.{SoundHead, SoundClip, Sound, SoundTaken, Unread}
+use Rattle.roundtrip.proofs.Again.{headRead}
+
+-- ---- each of a list's front
+pub all-take : {A : Type 0} (P : A → Type 0) (n : ℕ) (xs : List A) → All P xs → All P (take n xs)
+unfolding All
+all-take P zero xs h = tt
+all-take P (suc n) [] h = tt
+all-take P (suc n) (x ∷ xs) h = (h .0, all-take P n xs (h .1))
+
+module _ (text : List ℕ) where
+  -- ---- a head
+  pub record SoundParts (v : Option ℕ) (d m c : ℕ) (p : Option PlaylistType) : Type 0 where
+    pub version : If Small v
+    pub target : Small d
+    pub sequence : Small m
+    pub discontinuities : Small c
+    pub type : If (SoundType text) p
+
+  abbrev pub SoundHeadOf : Head → Type 0
+  SoundHeadOf (head v d m c p e i n) = SoundParts v d m c p
+
+  -- ---- the clip in the making, and one that a URI has ended
+  pub record SoundMaking (l : ℕ) (t : Option Span) (r : Option ByteRange) (m : Option Map) : Type 0 where
+    pub length : l < lengthLimit
+    pub title : If (Shows (isNoneOf (bytes "\r\n,")) text) t
+    pub range : If NumbersFit r
+    pub map : If (SoundMap text) m
+
+  abbrev pub SoundSegment : Segment → Type 0
+  SoundSegment (segment l t r d m) = SoundMaking l t r m
+
+  abbrev pub SoundUri : Span → Type 0
+  SoundUri u = Shows (isNoneOf (bytes "\r\n")) text u × Stops (isOneOf (bytes " \t\r\n")) (shown text u)
+
+  abbrev pub SoundClipOf : Clip → Type 0
+  SoundClipOf (clip u s f n) = SoundUri u × SoundSegment s
+
+  -- ---- an unknown tag, with the place where it was read
+  abbrev pub SoundTagOf : ExtTag → Type 0
+  SoundTagOf x = SoundExt text x × ((at : ℕ) × Unread text at x)
+
+  abbrev SoundState : State → Type 0
+  SoundState (state h s c f p) = SoundHeadOf h × SoundSegment s
+
+  begins-sound : SoundState begin
+  begins-sound = (
+    record { version = tt; target = omega arith; sequence = omega arith; discontinuities = omega arith; type = tt },
+    record { length = omega arith; title = tt; range = tt; map = tt },
+  )
+
+  -- ---- one step
+  head-next : (h : Head) (t : HeadTag) → SoundHeadOf h → SoundHead text t → SoundHeadOf (headNext h t)
+  head-next (head v d m c p e i n) (version x) h k = record { version = k; target = h .target; sequence = h .sequence; discontinuities = h .discontinuities; type = h .type }
+  head-next (head v d m c p e i n) (targetDuration x) h k = record { version = h .version; target = k; sequence = h .sequence; discontinuities = h .discontinuities; type = h .type }
+  head-next (head v d m c p e i n) (mediaSequence x) h k = record { version = h .version; target = h .target; sequence = k; discontinuities = h .discontinuities; type = h .type }
+  head-next (head v d m c p e i n) (discontinuitySequence x) h k = record { version = h .version; target = h .target; sequence = h .sequence; discontinuities = k; type = h .type }
+  head-next (head v d m c p e i n) (typed x) h k = record { version = h .version; target = h .target; sequence = h .sequence; discontinuities = h .discontinuities; type = k }
+  head-next (head v d m c p e i n) iFramesOnly h k = h
+  head-next (head v d m c p e i n) independentSegments h k = h
+  head-next (head v d m c p e i n) endList h k = h
+
+  segment-next : (s : Segment) (t : ClipTag) → SoundSegment s → SoundClip text t → SoundSegment (segmentNext s t)
+  segment-next (segment l t r d m) (timed (extinf (ns x) y)) h k = record { length = k .0; title = k .1; range = h .range; map = h .map }
+  segment-next (segment l t r d m) (timed (extinf tooManyDigits y)) h k = h
+  segment-next (segment l t r d m) (ranged x) h k = record { length = h .length; title = h .title; range = k; map = h .map }
+  segment-next (segment l t r d m) discontinuity h k = h
+  segment-next (segment l t r d m) (mapped x) h k = record { length = h .length; title = h .title; range = h .range; map = k }
+
+  state-next : (s : State) (at : ℕ) (t : Tag) → SoundState s → Sound text at t → SoundState (next s t)
+  unfolding next
+  state-next (state h s c f p) at (ofHead t) k q = (head-next h t (k .0) q, k .1)
+  state-next (state h s c f p) at (ofClip t) k q = (k .0, segment-next s t (k .1) q)
+  state-next (state h s c f p) at (unknown t) k q = k
+  state-next (state h s c f p) at (comment t) k q = k
+  state-next (state h s c f p) at (uri u) k q = (k .0, begins-sound .1)
+  state-next (state h s c f p) at (leftOut x) k q = k
+
+  clip-in : (s : State) (at : ℕ) (t : Tag) → SoundState s → Sound text at t → All SoundClipOf (clipIn s t)
+  unfolding All
+  clip-in (state h s c f p) at (ofHead t) k q = tt
+  clip-in (state h s c f p) at (ofClip t) k q = tt
+  clip-in (state h s c f p) at (unknown t) k q = tt
+  clip-in (state h s c f p) at (comment t) k q = tt
+  clip-in (state h s c f p) at (uri u) k q = ((q, k .1), tt)
+  clip-in (state h s c f p) at (leftOut x) k q = tt
+
+  tag-in : (at : ℕ) (t : Tag) → Sound text at t → All SoundTagOf (tagIn t)
+  unfolding All
+  tag-in at (ofHead t) q = tt
+  tag-in at (ofClip t) q = tt
+  tag-in at (unknown t) q = ((q .0, (at, q .1)), tt)
+  tag-in at (comment t) q = tt
+  tag-in at (uri u) q = tt
+  tag-in at (leftOut x) q = tt
+
+  -- ---- the steps
+  last-sound : (s : State) (ts : List Taken) → SoundState s → All (SoundTaken text) ts → SoundState (lastOf s ts)
+  unfolding lastOf All
+  last-sound s [] k h = k
+  last-sound s (took at t ∷ ts) k h = last-sound (next s t) ts (state-next s at t k (h .0 .0)) (h .1)
+
+  clips-sound : (s : State) (ts : List Taken) → SoundState s → All (SoundTaken text) ts → All SoundClipOf (clipsOf s ts)
+  unfolding clipsOf All
+  clips-sound s [] k h = tt
+  clips-sound s (took at t ∷ ts) k h =
+      all-append SoundClipOf (clipIn s t) (clipsOf (next s t) ts) (clip-in s at t k (h .0 .0)) (clips-sound (next s t) ts (state-next s at t k (h .0 .0)) (h .1))
+
+  tags-sound : (ts : List Taken) → All (SoundTaken text) ts → All SoundTagOf (tagsOf ts)
+  unfolding tagsOf All
+  tags-sound [] h = tt
+  tags-sound (took at t ∷ ts) h = all-append SoundTagOf (tagIn t) (tagsOf ts) (tag-in at t (h .0 .0)) (tags-sound ts (h .1))
+
+  head-of : (s : State) → SoundState s → SoundHeadOf (headOf s)
+  head-of (state h s c f p) k = k .0
+
+  -- ---- the list
+  pub record SoundList : Type 0 where
+    pub heads : SoundHeadOf (headRead text)
+    pub clips : All SoundClipOf (clipsRead text)
+    pub tags : All SoundTagOf (tagsRead text)
+
+  pub list-sound : All (SoundTaken text) (stepsOf text) → SoundList
+  unfolding clipsRead tagsRead
+  list-sound h =
+      record {
+        heads = head-of (lastOf begin (stepsOf text)) (last-sound begin (stepsOf text) begins-sound h);
+        clips = clips-sound begin (stepsOf text) begins-sound h;
+        tags = all-take SoundTagOf (keptTags (lastOf begin (stepsOf text))) (tagsOf (stepsOf text)) (tags-sound (stepsOf text) h);
+      }

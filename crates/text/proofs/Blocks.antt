@@ -1,0 +1,74 @@
+-- Laws of stretches of places: what holds of two that meet holds of both, and what stays the same from place to place is the same at
+-- both ends. Assumes nothing.
+use mathlib.Core.Path.{_≡_, sym, _∙_, ap, subst}
+use mathlib.Core.Bool.{Bool, true, _&&_}
+use mathlib.Core.List.{List}
+use Prim.Native.Nat.{ℕ, zero, suc, _+_, _-_, _≤_, _<_}
+use native.Mathlib.Nat.{le-refl, add-zero}
+use native.Mathlib.Decide.{decLe}
+use native.Mathlib.Omega.{arith}
+use lib.Dec.{leb}
+use borrow.Author.Tests.{eq-eqb, ne-eqb, leb-true}
+use lib.ListN.{length, getD}
+use Rattle.text.specs.Nom.{bytes, isOneOf, isNoneOf, runEnd}
+use Rattle.text.specs.Utf8.{utf8End}
+use Rattle.text.proofs.Laws.{and-left, and-right, run-step}
+use Rattle.text.proofs.Chars.{ascii, end-step}
+
+-- each place from a on and before b
+abbrev pub All : (ℕ → Type 0) → ℕ → ℕ → Type 0
+All P a b = (j : ℕ) → a ≤ j → j < b → P j
+
+-- a byte from lo to hi
+abbrev pub Within : ℕ → ℕ → List ℕ → ℕ → Type 0
+Within lo hi text j = (lo ≤ getD text j 0) × (getD text j 0 ≤ hi)
+
+-- .. that is there
+abbrev pub There : ℕ → ℕ → List ℕ → ℕ → Type 0
+There lo hi text j = (j < length text) × Within lo hi text j
+
+module _ (P : ℕ → Type 0) where
+  pub join : (a b d : ℕ) → All P a b → All P b d → All P a d
+  join a b d f g j h l = go (decLe b j)
+    where
+      go : Dec (b ≤ j) → P j
+      go (yes m) = g j m l
+      go (no m) = f j h (omega arith)
+
+  pub one : (a : ℕ) → P a → All P a (a + 1)
+  one a p j h l = let e : a ≡ j = omega arith in subst P e p
+
+-- one more byte is tested
+pub within-on : (text : List ℕ) (lo hi a b : ℕ) (w : Bool) → (w ≡ true → All (Within lo hi text) a b) → ((w && leb lo (getD text b 0)) && leb (getD text b 0) hi) ≡ true
+    → All (Within lo hi text) a (b + 1)
+within-on text lo hi a b w h e =
+    let first = and-left (w && leb lo (getD text b 0)) (leb (getD text b 0) hi) e in
+    join (Within lo hi text) a b (b + 1) (h (and-left w _ first))
+    (one (Within lo hi text) b (leb-true _ _ (and-right w _ first), leb-true _ _ (and-right (w && leb lo (getD text b 0)) _ e)))
+
+module _ (f : ℕ → ℕ) where
+  same-by : (k a : ℕ) → All (λ j. f j ≡ f (j + 1)) a (a + k) → f a ≡ f (a + k)
+  same-by zero a h = ap f (sym (add-zero a))
+  same-by (suc k) a h =
+      let z : a + 1 + k ≡ a + suc k = omega arith in
+      h a (le-refl a) (omega arith) ∙ same-by k (a + 1) (λ j m l. h j (omega arith) (omega arith)) ∙ ap f z
+
+  pub same : (a b : ℕ) → a ≤ b → All (λ j. f j ≡ f (j + 1)) a b → f a ≡ f b
+  same a b m h = let z : a + (b - a) ≡ b = omega arith in same-by (b - a) a (λ j n l. h j n (omega arith)) ∙ ap f z
+
+module _ (text : List ℕ) (a b : ℕ) (m : a ≤ b) where
+  -- a run goes on past bytes that pass its test
+  run-on : (p : ℕ → Bool) (lo hi : ℕ) → ((x : ℕ) → lo ≤ x → x ≤ hi → p x ≡ true) → All (There lo hi text) a b → runEnd p text a ≡ runEnd p text b
+  run-on p lo hi t h = same (runEnd p text) a b m (λ j n l. let w = h j n l in run-step p text j (w .0) (t (getD text j 0) (w .1 .0) (w .1 .1)))
+
+  -- a line past bytes above CR
+  pub line-on : (hi : ℕ) → All (There 14 hi text) a b → runEnd (isNoneOf (bytes "\r\n")) text a ≡ runEnd (isNoneOf (bytes "\r\n")) text b
+  line-on hi = run-on (isNoneOf (bytes "\r\n")) 14 hi (λ x k l. rw (ne-eqb 13 x (λ e. omega arith), ne-eqb 10 x (λ e. omega arith)))
+
+  -- blanks past spaces
+  pub space-on : All (There 32 32 text) a b → runEnd (isOneOf (bytes " \t\r\n")) text a ≡ runEnd (isOneOf (bytes " \t\r\n")) text b
+  space-on = run-on (isOneOf (bytes " \t\r\n")) 32 32 (λ x k l. rw (eq-eqb 32 x (omega arith)))
+
+  -- characters past bytes below 0x80
+  pub ascii-on : All (There 0 0x7F text) a b → utf8End text a ≡ utf8End text b
+  ascii-on h = same (utf8End text) a b m (λ j n l. end-step text j 1 (ascii text j (h j n l .0) (omega (arith, h j n l .1 .1))) (λ e. omega arith))

@@ -1,0 +1,14 @@
+-- `scan::line_blocks_end`: what `within_end` passes is neither CR nor LF. Assumes nothing.
+use borrow.Author.Needs.{needs}
+use Rattle.text.proofs.Blocks.{line-on}
+use Rattle.text.proofs.scan.line_blocks_end.Statement.{statement}
+use Rattle.text.proofs.scan.line_blocks_end.Tie as tie
+
+within-end-requires : tie.Need-within-end-requires
+within-end-requires c κs = search needs
+
+returns : tie.Need-returns
+returns c = let e = c .within-end .ensures in line-on _ _ _ (e .0) _ (e .1)
+
+pub line-blocks-end-spec : {M : Type 1} → statement M
+line-blocks-end-spec = tie.close (tie.spec within-end-requires returns)

@@ -1,0 +1,208 @@
+/*
+ * Ledgerfern: a proved reader and writer of HLS media playlists, with an exact clock. C99.
+ *
+ * Link with libledgerfern.a, which `rt staticlib ledgerfern` writes below target/staticlib (for x86-64).
+ *
+ * Every call answers for any bytes, any words and any numbers; each is proved to end, and to touch only the memory that
+ * it is lent. Nothing is kept after a call and nothing is allocated: text and tables are the caller's, before and after.
+ * A pointer must be valid for its length (counted in bytes for a text, in words for a table) and, even where the length
+ * is 0, not NULL. What a call writes to may not overlap anything else that it is given. Calls may run at once in several
+ * threads, as long as no two share a table that is written.
+ *
+ * An answer is a struct by value. `number` is 0 where the call is answered, and else the refusal's number, `place` the
+ * place in the text that it names; all other fields are then 0, and no lent memory has changed.
+ */
+#ifndef LEDGERFERN_H
+#define LEDGERFERN_H
+
+#include <stddef.h>
+#include <stdint.h>
+
+#ifdef __cplusplus
+extern "C" {
+#endif
+
+/* ---- refusals ----------------------------------------------------------------------------------------------------- */
+
+enum ledgerfern_refusal {
+    LEDGERFERN_OK = 0,
+    LEDGERFERN_TEXT_TOO_LONG = 1,    /* text above LEDGERFERN_TEXT_LIMIT bytes; place 0 */
+    LEDGERFERN_NOT_UTF8 = 2,         /* text is not UTF-8; the first byte of the first ill-formed sequence */
+    LEDGERFERN_NO_HEADER = 3,        /* text does not begin with #EXTM3U; place 0 */
+    LEDGERFERN_IS_MASTER = 4,        /* it is a master playlist; the `#` of the tag that decided */
+    LEDGERFERN_LEFT_OUT_TAG = 5,     /* #EXT-X-KEY:, -START:, -PROGRAM-DATE-TIME: or -DATERANGE:; its `#` */
+    LEDGERFERN_TOO_MANY_DIGITS = 6,  /* an EXTINF with over 9 digits before or after the point; its `#` */
+    LEDGERFERN_CLIP_TABLE_SHORT = 7, /* the clip table has too few words for the clips; place 0 */
+    LEDGERFERN_TAG_TABLE_SHORT = 8,  /* the tag table has too few words for the kept unknown tags; place 0 */
+    LEDGERFERN_BROKEN_TABLE = 9,     /* a table breaks the rule of the call; place 0 */
+    LEDGERFERN_OUTPUT_SHORT = 10,    /* the output has too few bytes for the text to write; place 0 */
+    LEDGERFERN_TOTAL_TOO_LONG = 11,  /* all lengths together above LEDGERFERN_TOTAL_LIMIT ns; place 0 */
+    LEDGERFERN_BAD_RATE = 12,        /* rate 0, or above LEDGERFERN_RATE_LIMIT; place 0 */
+    LEDGERFERN_TURN_TOO_LATE = 13,   /* turn above LEDGERFERN_TURN_LIMIT; place 0 */
+    LEDGERFERN_NO_SUCH_CLIP = 14,    /* the clip's index is not below the number of clips; place 0 */
+    LEDGERFERN_WINDOW_TOO_FAR = 15   /* a window's end above 2^64 - 1; place 0 */
+};
+
+/* ---- limits ------------------------------------------------------------------------------------------------------- */
+
+#define LEDGERFERN_TEXT_LIMIT 65536
+#define LEDGERFERN_LENGTH_LIMIT UINT64_C(1000000000000000000) /* a clip's length in ns is below this: 10^18 */
+#define LEDGERFERN_TOTAL_LIMIT UINT64_C(1000000000000000)     /* the largest total in ns: 10^15 */
+#define LEDGERFERN_RATE_LIMIT 90000                           /* the largest rate, in ticks a second; the least is 1 */
+#define LEDGERFERN_TURN_LIMIT 999999                          /* the last turn; the first is 0 */
+
+/* Tables of so many records hold what any text within the limit has. */
+#define LEDGERFERN_MOST_CLIPS 32765
+#define LEDGERFERN_MOST_TAGS 9361
+
+/* ---- the tables --------------------------------------------------------------------------------------------------- */
+
+/*
+ * A clip's record is LEDGERFERN_CLIP_WORDS words of 64 bits, the k-th record beginning at word k x LEDGERFERN_CLIP_WORDS.
+ * A start and an end are places in the text: the first byte, and the place after the last. What is absent is zeros.
+ */
+#define LEDGERFERN_CLIP_WORDS 17
+#define LEDGERFERN_URI_START 0
+#define LEDGERFERN_URI_END 1
+#define LEDGERFERN_LENGTH 2        /* in ns, exact */
+#define LEDGERFERN_BITS 3          /* the bits of the binary32 nearest to the length in seconds */
+#define LEDGERFERN_TITLE_START 4   /* a title is there unless both its words are 0 */
+#define LEDGERFERN_TITLE_END 5
+#define LEDGERFERN_FLAGS 6         /* the sum of LEDGERFERN_HAS_.. */
+#define LEDGERFERN_RANGE_LENGTH 7  /* #EXT-X-BYTERANGE */
+#define LEDGERFERN_RANGE_OFFSET 8
+#define LEDGERFERN_MAP_URI_START 9 /* #EXT-X-MAP */
+#define LEDGERFERN_MAP_URI_END 10
+#define LEDGERFERN_MAP_RANGE_LENGTH 11
+#define LEDGERFERN_MAP_RANGE_OFFSET 12
+#define LEDGERFERN_MAP_LIST_START 13 /* the map's whole attribute list */
+#define LEDGERFERN_MAP_LIST_END 14
+#define LEDGERFERN_FIRST_TAG 15 /* the index of the clip's first unknown tag: how many earlier clips have */
+#define LEDGERFERN_TAG_COUNT 16 /* how many unknown tags it has */
+
+#define LEDGERFERN_HAS_RANGE 1
+#define LEDGERFERN_HAS_RANGE_OFFSET 2
+#define LEDGERFERN_HAS_DISCONTINUITY 4
+#define LEDGERFERN_HAS_MAP 8
+#define LEDGERFERN_HAS_MAP_RANGE 16
+#define LEDGERFERN_HAS_MAP_OFFSET 32
+#define LEDGERFERN_FLAG_LIMIT 64 /* a word of flags is below this */
+
+/* An unknown tag's record: its name behind `#EXT-`, and its rest behind the colon, there unless both its words are 0. */
+#define LEDGERFERN_TAG_WORDS 4
+#define LEDGERFERN_NAME_START 0
+#define LEDGERFERN_NAME_END 1
+#define LEDGERFERN_REST_START 2
+#define LEDGERFERN_REST_END 3
+
+/* ---- answers ------------------------------------------------------------------------------------------------------ */
+
+/* A mark is 1 where it holds, else 0. */
+typedef struct {
+    uint64_t number;
+    uint64_t place;
+    uint64_t master; /* a mark */
+} ledgerfern_verdict_answer;
+
+/* A playlist's head. Numbers whose tag is not there are 0. */
+typedef struct {
+    uint64_t version_present; /* a mark */
+    uint64_t version;
+    uint64_t target_duration;
+    uint64_t media_sequence;
+    uint64_t discontinuity_sequence;
+    uint64_t playlist_type; /* one of LEDGERFERN_TYPE_.. */
+    uint64_t type_start;    /* of another text its span, else 0 and 0 */
+    uint64_t type_end;
+    uint64_t end_list;             /* a mark */
+    uint64_t i_frames_only;        /* a mark */
+    uint64_t independent_segments; /* a mark */
+} ledgerfern_head;
+
+#define LEDGERFERN_TYPE_ABSENT 0
+#define LEDGERFERN_TYPE_EVENT 1
+#define LEDGERFERN_TYPE_VOD 2
+#define LEDGERFERN_TYPE_OTHER 3
+
+typedef struct {
+    uint64_t number;
+    uint64_t place;
+    uint64_t clips; /* records in the clip table */
+    uint64_t tags;  /* records in the tag table */
+    uint64_t stop;  /* where the reading stopped: the text's length, or the step that met a lone CR */
+    ledgerfern_head head;
+} ledgerfern_read_answer;
+
+typedef struct {
+    uint64_t number;
+    uint64_t place;
+    uint64_t length; /* bytes written */
+} ledgerfern_written_answer;
+
+typedef struct {
+    uint64_t number;
+    uint64_t place;
+    uint64_t value;
+} ledgerfern_value_answer;
+
+typedef struct {
+    uint64_t number;
+    uint64_t place;
+    uint64_t present; /* a mark: the clip has a range; else start and end are 0 */
+    uint64_t start;
+    uint64_t end; /* the place after the last byte */
+} ledgerfern_window_answer;
+
+/* ---- calls -------------------------------------------------------------------------------------------------------- */
+
+/* Whether a text is a master playlist. Refusals: 1, 2, 3. */
+ledgerfern_verdict_answer ledgerfern_verdict(const uint8_t *text, size_t text_length);
+
+/*
+ * Reads a media playlist: its head, and its clips and their unknown tags into the two tables, whose sizes are counted in
+ * words. Words past the last record stay as they were. Refusals: 1, 2, 3, 4, then 5 or 6 whichever the reading meets
+ * first, 7, 8.
+ */
+ledgerfern_read_answer ledgerfern_read(const uint8_t *text, size_t text_length, uint64_t *clips, size_t clip_words,
+                                       uint64_t *tags, size_t tag_words);
+
+/*
+ * Writes a playlist: the head's lines, then `clip_count` clips with their `tag_count` unknown tags, into the output, whose
+ * bytes past the text stay as they were. Spans are places in `text`. Head and tables must keep the writer's rule (9): the
+ * counts fit; spans have start <= end <= text_length; lengths are below the limit and agree with their bits; flags are
+ * below the limit, and 2 stands only with 1, 16 with 8, 32 with 16; words of what is absent are 0; each clip's first tag is
+ * the sum of the counts before it, and all tags are used; marks are 0 or 1, and numbers of what a head does not have are 0.
+ * What ledgerfern_read gives keeps it. Refusals: 1, 9, 10.
+ */
+ledgerfern_written_answer ledgerfern_write(const uint8_t *text, size_t text_length, ledgerfern_head head,
+                                           size_t clip_count, const uint64_t *clips, size_t clip_words,
+                                           size_t tag_count, const uint64_t *tags, size_t tag_words, uint8_t *output,
+                                           size_t output_length);
+
+/*
+ * The calls below are over a table of clips: `clip_count` is how many records are meant, `clip_words` the table's size.
+ * They read the words of lengths, or flags and range, and no others.
+ */
+
+/* All lengths together, in ns. Refusals: 9, 11. */
+ledgerfern_value_answer ledgerfern_total(size_t clip_count, const uint64_t *clips, size_t clip_words);
+
+/*
+ * The tick at which a clip starts in a turn, where the list is played turn after turn at `rate` ticks a second: the last
+ * whole tick that is not after the exact moment. Refusals: 9, 11, 12, 13, 14.
+ */
+ledgerfern_value_answer ledgerfern_start_tick(size_t clip_count, const uint64_t *clips, size_t clip_words,
+                                              uint64_t rate, uint64_t turn, size_t clip);
+
+/* A clip's ticks in a turn: the next start minus its own, so that they add up. Refusals: 9, 11, 12, 13, 14. */
+ledgerfern_value_answer ledgerfern_clip_ticks(size_t clip_count, const uint64_t *clips, size_t clip_words,
+                                              uint64_t rate, uint64_t turn, size_t clip);
+
+/* The part of its resource that a clip's range names; without an offset it starts at 0. Refusals: 9, 14, 15. */
+ledgerfern_window_answer ledgerfern_window(size_t clip_count, const uint64_t *clips, size_t clip_words, size_t clip);
+
+#ifdef __cplusplus
+}
+#endif
+
+#endif
