@@ -1,4 +1,4 @@
--- What the loops of `number_size` and `fraction_size` know, a turn of each, and its end. Assumes nothing.
+-- What the loops of `number_size`, `without_threes` and `fraction_size` know, a turn of each, and its end. Assumes nothing.
 use mathlib.Core.Path.{_≡_, refl, sym, _∙_, ap}
 use Prim.Native.Nat.{ℕ, suc, zero, _+_, _-_, _*_, _/_, _%_, _^_, _≤_, _<_}
 use native.Mathlib.Nat.{pow-suc}
@@ -28,7 +28,7 @@ module _ {n size left : ℕ} (h : Counting n size left) where
 
 -- the digits that are left of a fraction without the zeros passed
 pub record Trimming (f size left : ℕ) : Type 0 where
-  pub same : length (fractionBy size left) ≡ length (fractionBy 9 f)
+  pub same : fractionBy size left ≡ fractionBy 9 f
   pub some : 0 < left
   pub below : left < 10 ^ size
   pub most : size ≤ 9
@@ -44,13 +44,23 @@ trim-more f (suc size) left h k =
     let b : left / 10 < 10 ^ size = omega (arith, h .below, pow-suc 10 size) in (
       omega arith,
       rw z (record {
-        same = ap length (sym (fraction-zero-end size (left / 10) b) ∙ ap (fractionBy (suc size)) e) ∙ h .same;
+        same = sym (fraction-zero-end size (left / 10) b) ∙ ap (fractionBy (suc size)) e ∙ h .same;
         some = omega (arith, h .some);
         below = b;
         most = omega (arith, h .most);
       }),
     )
 
+-- three turns at once
+pub trim-three : (f size left : ℕ) → Trimming f size left → left % 1000 ≡ 0 → (2 < size) × Trimming f (size - 3) (left / 1000)
+trim-three f size left h k =
+    let one = trim-more f size left h (omega arith) in
+    let two = trim-more f (size - 1) (left / 10) (one .1) (omega arith) in
+    let three = trim-more f (size - 1 - 1) (left / 10 / 10) (two .1) (omega arith) in
+    let s : size - 1 - 1 - 1 ≡ size - 3 = omega arith in
+    let l : left / 10 / 10 / 10 ≡ left / 1000 = omega arith in
+    (omega (arith, two .0, three .0), rw (s, l) at (three .1))
+
 pub trim-end : (f size left : ℕ) → Trimming f size left → (f ≡ 0 → ⊥) → (left % 10 ≡ 0 → ⊥) → size + 1 ≡ length (fractionText f)
 trim-end f zero left h q k = absurd (omega (arith, h .some, h .below))
-trim-end f (suc size) left h q k = rw (fraction-point f q) (omega (arith, fraction-full size left k, h .same))
+trim-end f (suc size) left h q k = rw (fraction-point f q) (omega (arith, fraction-full size left k, ap length (h .same)))

@@ -1,8 +1,8 @@
 // How many bytes a number and a length take as text (01, "Writing"). The texts themselves are in `specs/`; who has room for them writes them.
 ghost use mathlib.Core.Path.{_≡_};
-ghost use Prim.Native.Nat.{_≤_, _<_};
+ghost use Prim.Native.Nat.{_^_, _≤_, _<_};
 ghost use lib.ListN.{length};
-ghost use Rattle.digits.specs.Digits.{second, numberText, fractionText, lengthText};
+ghost use Rattle.digits.specs.Digits.{second, numberText, fractionBy, fractionText, lengthText};
 
 // Ns in a second.
 pub const SECOND: u64 = 1_000_000_000;
@@ -21,6 +21,27 @@ pub fn number_size(n: u64) -> usize
     size
 }
 
+// The digits of a fraction, as a number, and on how many places they stand.
+struct Places {
+    left: u64,
+    size: usize,
+}
+
+// Nine places less zeros at their end, three at a time: most lengths are whole milliseconds, and take two turns here instead of six.
+fn without_threes(f: u64) -> Places
+    requires { ⌜ (0 < f) × (f < second) ⌝ }
+    ensures same { λ r. ⌜ fractionBy (r .size) (r .left) ≡ fractionBy 9 f ⌝ }
+    ensures places { λ r. ⌜ (0 < r .left) × (r .left < 10 ^ (r .size)) × (r .size ≤ 9) ⌝ }
+{
+    let mut size: usize = 9;
+    let mut left = f;
+    while left % 1000 == 0 {
+        left = left / 1000;
+        size -= 3;
+    }
+    Places { left, size }
+}
+
 // A point and nine digits, less the zeros at their end; nothing where all are zeros.
 fn fraction_size(f: u64) -> usize
     requires { ⌜ f < second ⌝ }
@@ -30,8 +51,9 @@ fn fraction_size(f: u64) -> usize
     if f == 0 {
         return 0;
     }
-    let mut size: usize = 9;
-    let mut left = f;
+    let places = without_threes(f);
+    let mut size = places.size;
+    let mut left = places.left;
     while left % 10 == 0 {
         left = left / 10;
         size -= 1;

@@ -1,8 +1,8 @@
 -- `closest n u`, the whole number nearest to n / u, a tie to the even one: how it is found, and that no other multiple of u is nearer to n.
 -- Assumes nothing.
-use mathlib.Core.Path.{_≡_, refl, sym, ap, subst}
+use mathlib.Core.Path.{_≡_, refl, sym, ap, _∙_, subst}
 use mathlib.Core.Bool.{not}
-use Prim.Native.Nat.{ℕ, suc, _+_, _*_, _/_, _%_, _≤_, _<_, compare, Ordering, Ordering·lt, Ordering·eq, Ordering·gt}
+use Prim.Native.Nat.{ℕ, suc, _+_, _-_, _*_, _/_, _%_, _≤_, _<_, compare, Ordering, Ordering·lt, Ordering·eq, Ordering·gt}
 use native.Mathlib.Nat.{mod-lt, div-add-mod', le-of-eq, mul-le-mul-right}
 use native.Mathlib.Omega.{arith}
 use lib.Arith.{lt-of-le-ne}
@@ -42,15 +42,22 @@ module _ (q a b : ℕ) where
   above Ordering·eq s h = omega arith
   above Ordering·gt s h = omega arith
 
-module _ (n u : ℕ) where
-  pub closest-down : n % u * 2 < u → closest n u ≡ n / u
-  closest-down h = below (n / u) (n % u * 2) u (compare (n % u * 2) u) (says (n % u * 2) u) h
+-- with the quotient w in hand, what it leaves is the remainder
+module _ (n u w : ℕ) (e : w ≡ n / u) where
+  pub quotient-rest : w * u + n % u ≡ n
+  quotient-rest = rw e (div-add-mod' n u)
 
-  pub closest-tie : n % u * 2 ≡ u → closest n u ≡ n / u + n / u % 2
-  closest-tie h = at (n / u) (n % u * 2) u (compare (n % u * 2) u) (says (n % u * 2) u) h
+  twice-rest : (n - w * u) * 2 ≡ n % u * 2
+  twice-rest = omega (arith, quotient-rest)
 
-  pub closest-up : u < n % u * 2 → closest n u ≡ n / u + 1
-  closest-up h = above (n / u) (n % u * 2) u (compare (n % u * 2) u) (says (n % u * 2) u) h
+  pub closest-down : (n - w * u) * 2 < u → closest n u ≡ w
+  closest-down h = below (n / u) (n % u * 2) u (compare (n % u * 2) u) (says (n % u * 2) u) (rw twice-rest at h) ∙ sym e
+
+  pub closest-tie : (n - w * u) * 2 ≡ u → closest n u ≡ w + w % 2
+  closest-tie h = at (n / u) (n % u * 2) u (compare (n % u * 2) u) (says (n % u * 2) u) (sym twice-rest ∙ h) ∙ ap (λ (z : ℕ). z + z % 2) (sym e)
+
+  pub closest-up : u < (n - w * u) * 2 → closest n u ≡ w + 1
+  closest-up h = above (n / u) (n % u * 2) u (compare (n % u * 2) u) (says (n % u * 2) u) (rw twice-rest at h) ∙ ap (λ (z : ℕ). z + 1) (sym e)
 
 -- ---- within a half
 pub record Half (n u q : ℕ) : Type 0 where

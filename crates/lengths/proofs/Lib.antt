@@ -2,6 +2,7 @@
 pub mod Sides  -- digits before and after a point, and the length that they make
 pub mod Kept  -- what the code keeps of them
 pub mod Takes  -- how far the rules of a length go
+pub mod Ends  -- where a length ends, and whether it has too many digits
 pub mod Local  -- they do the same with more text before them
 pub mod Ahead  -- what they make of known bytes ahead
 pub mod Only  -- no second answer meets their contracts

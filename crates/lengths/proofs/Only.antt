@@ -1,5 +1,8 @@
 -- An answer is determined: no second one meets a contract (`text`, `Only`). Assumes nothing.
+use Prim.Native.Nat.{ℕ}
 use mathlib.Core.Path.{_≡_, refl}
+use mathlib.Core.Bool.{Bool}
+use mathlib.Core.Option.{Option, none, some}
 use Rattle.text.specs.Nom.{Res, fail, ok}
 use Rattle.text.proofs.Only.{Only, only-by, whyBack, why-back, partBack, part-back}
 use Rattle.lengths.specs.declared.duration.Length as lengthᵈ
@@ -9,8 +12,10 @@ use Rattle.lengths.specs.declared.duration.LengthRes.the-variants as len
 use Rattle.lengths.specs.declared.duration.Extinf as extinfᵈ
 use Rattle.lengths.specs.declared.duration.ExtinfRes.{ExtinfRes}
 use Rattle.lengths.specs.declared.duration.ExtinfRes.the-variants as extinfResᵛ
+use Rattle.lengths.specs.declared.duration.ExtinfEnd.{ExtinfEnd}
+use Rattle.lengths.specs.declared.duration.ExtinfEnd.the-variants as endᵛ
 use Rattle.lengths.specs.Duration.{Length, ns, tooManyDigits, Extinf, extinf}
-use Rattle.lengths.specs.Answers.{lengthSeen, lengthRes, extinfOf, extinfRes}
+use Rattle.lengths.specs.Answers.{lengthSeen, lengthRes, extinfOf, extinfRes, extinfEnd}
 
 abbrev pub lengthBack : Length → lengthᵈ.Length
 lengthBack (ns n) = lengthᵛ.Ns n
@@ -50,3 +55,14 @@ extinf-res-back (extinfResᵛ.Ok e n) = rw (extinf-back e)
 
 pub extinf-res-only : Only extinfRes
 extinf-res-only = only-by extinfRes extinfResBack extinf-res-back
+
+abbrev extinfEndBack : Option (Bool × ℕ) → ExtinfEnd
+extinfEndBack none = endᵛ.Fail
+extinfEndBack (some x) = endᵛ.Ok (x .0) (x .1)
+
+extinf-end-back : (r : ExtinfEnd) → extinfEndBack (extinfEnd r) ≡ r
+extinf-end-back endᵛ.Fail = refl
+extinf-end-back (endᵛ.Ok long n) = refl
+
+pub extinf-end-only : Only extinfEnd
+extinf-end-only = only-by extinfEnd extinfEndBack extinf-end-back

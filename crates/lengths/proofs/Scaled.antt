@@ -2,7 +2,7 @@
 -- Assumes nothing.
 use mathlib.Core.Path.{_≡_, refl, sym, ap, _∙_}
 use Prim.Native.Nat.{ℕ, suc, _+_, _-_, _*_, _/_, _^_, _≤_, _<_}
-use native.Mathlib.Nat.{le-trans, le-of-eq, lt-irrefl, lt-of-lt-of-le, le-of-suc-le-suc, lt-of-not-le, mul-le-mul-right, mul-lt-mul-of-pos-right}
+use native.Mathlib.Nat.{le-trans, le-of-eq, lt-irrefl, lt-of-lt-of-le, le-of-suc-le-suc, lt-of-not-le, mul-le-mul-right, mul-lt-mul-of-pos-right, div-div-eq-div-mul}
 use native.Mathlib.Omega.{arith}
 use lib.Count.{leadingZeros, leading-top}
 use lib.Dec.{lit<}
@@ -73,6 +73,10 @@ unit-fits {ns} {n} S =
     let m : 2 ^ shift n ≤ 2 ^ 11 = pow-mono {j = 11} (omega arith) in
     let p : 0 < 2 ^ shift n = pow-pos (shift n) in
     (omega arith, omega arith)
+
+-- the quotient by the unit is the quotient by 10^9 without those digits
+pub quotient-moved : (n unit : ℕ) → unit ≡ 10 ^ 9 * 2 ^ shift n → n / 10 ^ 9 / 2 ^ shift n ≡ n / unit
+quotient-moved n unit e = div-div-eq-div-mul n (10 ^ 9) (2 ^ shift n) ∙ ap (λ (z : ℕ). n / z) (sym e)
 
 -- with the digits d in hand
 module _ {ns n unit d : ℕ} (S : Scaled ns n) (u : unit ≡ 10 ^ 9 * 2 ^ shift n) (e : d ≡ closest n unit) where

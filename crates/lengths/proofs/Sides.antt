@@ -2,12 +2,12 @@
 use Prim.Native.Nat.{ℕ, zero, suc, _+_, _-_, _*_, _^_, _≤_, _<_}
 use mathlib.Core.Path.{_≡_, refl, sym, _∙_, ap}
 use mathlib.Core.Bool.{Bool, true, false, cond, _&&_}
-use mathlib.Core.List.{List, [], _∷_}
+use mathlib.Core.List.{List}
 use mathlib.Core.Option.{Option, none, some}
 use native.Mathlib.Omega.{arith}
 use native.Mathlib.Nat.{lt-of-lt-of-le, le-of-eq, mul-lt-mul-of-pos-right, add-mul, mul-assoc, mul-comm, mul-right-comm, one-le-pow, pow-le-pow-right}
 use lib.Dec.{leb, ltb}
-use lib.ListN.{drop, getD}
+use lib.ListN.{drop}
 use lib.Pow.{pow-add}
 use borrow.Author.Tests.{leb-true}
 use Rattle.text.specs.Why.{Why, noDigits}
@@ -20,19 +20,14 @@ use Rattle.lengths.specs.Duration.{Digits, digits, counted, sideDigits, 
 pad : (n : ℕ) → n ≤ sideDigits → 10 ^ n * 10 ^ (9 - n) ≡ 10 ^ 9
 pad n h = let z : n + (9 - n) ≡ 9 = omega arith in sym (pow-add 10 n (9 - n)) ∙ ap (λ (k : ℕ). 10 ^ k) z
 
--- the table of the powers is right
-pub ten-to : (k : ℕ) → k ≤ sideDigits → getD (1 ∷ 10 ∷ 100 ∷ 1000 ∷ 10000 ∷ 100000 ∷ 1000000 ∷ 10000000 ∷ 100000000 ∷ 1000000000 ∷ []) k 0 ≡ 10 ^ k
-ten-to zero h = refl
-ten-to (suc zero) h = refl
-ten-to (suc (suc zero)) h = refl
-ten-to (suc (suc (suc zero))) h = refl
-ten-to (suc (suc (suc (suc zero)))) h = refl
-ten-to (suc (suc (suc (suc (suc zero))))) h = refl
-ten-to (suc (suc (suc (suc (suc (suc zero)))))) h = refl
-ten-to (suc (suc (suc (suc (suc (suc (suc zero))))))) h = refl
-ten-to (suc (suc (suc (suc (suc (suc (suc (suc zero)))))))) h = refl
-ten-to (suc (suc (suc (suc (suc (suc (suc (suc (suc zero))))))))) h = refl
-ten-to (suc (suc (suc (suc (suc (suc (suc (suc (suc (suc k)))))))))) h = absurd (omega arith)
+-- a number that is none of those below n, as the last arm of a `match` knows it, is n or more
+abbrev pub NoneBelow : ℕ → ℕ → Type 0
+NoneBelow zero k = Unit {0}
+NoneBelow (suc n) k = NoneBelow n k × (k ≡ n → ⊥)
+
+pub none-below : (n k : ℕ) → NoneBelow n k → n ≤ k
+none-below zero k h = omega arith
+none-below (suc n) k h = omega (arith, none-below n k (h .0), h .1)
 
 -- n digits write a number below 10 ^ n
 abbrev pub Written : Digits → Type 0

@@ -1,6 +1,6 @@
 -- parser.rs, `float` and `duration_title_tag`, side by side with the Rust. Assumes nothing.
 use Prim.Native.Nat.{ℕ, _+_, _-_, _*_, _^_}
-use mathlib.Core.Bool.{cond, _&&_}
+use mathlib.Core.Bool.{Bool, true, false, cond, _&&_}
 use mathlib.Core.Option.{Option, none, some}
 use lib.Dec.{leb}
 use Rattle.text.specs.Nom.{Parser, Span, bytes, tag, optTag, optIsNot, take1, digit1, place, opt, preceded, _>>=_, done}
@@ -40,6 +40,11 @@ float =
 -- SegmentTag::Extinf(f32, Option<String>)
 pub data Extinf : Type 0 where
   extinf : Length → Option Span → Extinf
+
+-- whether its length has too many digits
+abbrev pub isLong : Extinf → Bool
+isLong (extinf (ns x) title) = false
+isLong (extinf tooManyDigits title) = true
 
 -- fn duration_title_tag = map(tuple((float, opt(char(',')), opt(is_not("\r\n,")), take(1), opt(char(',')))), |(duration, _, title, _, _)| (duration, title))
 unfoldable pub durationTitleTag : Parser Extinf

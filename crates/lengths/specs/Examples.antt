@@ -1,11 +1,13 @@
 -- Worked examples, by computation: for each rule a text that it takes and one that it refuses. Assumes nothing.
 use mathlib.Core.Path.{_≡_, refl}
+use mathlib.Core.Bool.{true, false}
 use mathlib.Core.List.{[], _∷_}
 use mathlib.Core.Option.{none, some}
 use Rattle.text.specs.Why.{noDigits, missingByte}
 use Rattle.text.specs.Nom.{fail, ok, span, bytes, isDigit, begins, tagged, afterTag, run, runEnd, decimal}
 use Rattle.lengths.specs.Duration.{counted, ns, tooManyDigits, float, extinf, durationTitleTag}
 use Rattle.lengths.specs.Binary32.{secondsBits}
+use Rattle.lengths.specs.Answers.{endOf}
 
 -- ---- lengths
 whole : float (bytes "9,") 0 ≡ ok (ns 9000000000) 1
@@ -66,6 +68,15 @@ comma-after-cr = refl
 no-byte : durationTitleTag (bytes "0000000000") 0 ≡ fail missingByte
 unfolding durationTitleTag float counted isDigit runEnd run decimal tagged afterTag begins
 no-byte = refl
+
+-- without its values, nine digits on each side and one more
+nine-told : endOf (durationTitleTag (bytes "123456789.123456789,\n") 0) ≡ some (false, 21)
+unfolding durationTitleTag float counted isDigit runEnd run decimal tagged afterTag begins
+nine-told = refl
+
+ten-told : endOf (durationTitleTag (bytes "1.1234567891,\n") 0) ≡ some (true, 14)
+unfolding durationTitleTag float counted isDigit runEnd run decimal tagged afterTag begins
+ten-told = refl
 
 -- ---- * "bits: 0.1 s 3DCCCCCD, 9 s 41100000, 16777217 s as 16777216, 999999999.999999999 s 4E6E6B28", in one statement
 bits :

@@ -2,7 +2,7 @@
 
 use crate::NS_IN_SECOND;
 ghost use mathlib.Core.Path.{_≡_};
-ghost use Prim.Native.Nat.{_*_, _^_, _<_};
+ghost use Prim.Native.Nat.{_*_, _/_, _^_, _<_};
 ghost use lib.Ieee.Nearest.{closest};
 ghost use Rattle.lengths.specs.Binary32.{secondsBits};
 
@@ -25,13 +25,12 @@ fn shifted(x: u64, k: u32) -> u64
     x << k
 }
 
-// n / unit to the nearest whole number, a tie to the even one.
-fn nearest(n: u64, unit: u64) -> u64
-    requires { ⌜ (1 < unit) × (unit < 2 ^ 63) ⌝ }
+// n / unit to the nearest whole number, a tie to the even one. `whole` is their quotient: who calls has it without a division.
+fn nearest(n: u64, whole: u64, unit: u64) -> u64
+    requires { ⌜ (1 < unit) × (unit < 2 ^ 63) × (whole ≡ n / unit) ⌝ }
     ensures { λ r. ⌜ r ≡ closest n unit ⌝ }
 {
-    let whole = n / unit;
-    let twice = n % unit * 2;
+    let twice = (n - whole * unit) * 2;
     if twice < unit {
         return whole;
     }
@@ -55,7 +54,7 @@ pub fn seconds_bits(ns: u64) -> u64
     let highest = TOP_BIT - u64::leading_zeros(quotient);
     let shift = highest - DIGITS_BELOW;
     let unit = shifted(NS_IN_SECOND, shift);
-    let digits = nearest(n, unit);
+    let digits = nearest(n, quotient >> shift, unit);
     let exponent = shift + SMALLEST - up;
     (exponent as u64) * HIDDEN_BIT + digits
 }

@@ -8,9 +8,9 @@ use text::util::Parsed;
 ghost use mathlib.Core.Path.{_≡_};
 ghost use mathlib.Core.Option.{some};
 ghost use Prim.Native.Nat.{_^_, _≤_, _<_};
-ghost use Rattle.text.specs.Nom.{bytes, tag, map, preceded};
+ghost use Rattle.text.specs.Nom.{bytes, tag, map, opt, preceded};
 ghost use Rattle.lengths.specs.Duration as rule;
-ghost use Rattle.lengths.specs.Answers.{lengthSeen, lengthRes, kept, digitsOf, digitsRes, extinfRes};
+ghost use Rattle.lengths.specs.Answers.{lengthSeen, lengthRes, kept, digitsOf, digitsRes, extinfRes, after, endOf, extinfEnd};
 
 // 01 allows nine digits on each side of the point: then ns fit, and are exact.
 const SIDE_DIGITS: usize = 9;
@@ -72,24 +72,22 @@ fn fraction(text: &[u8], at: usize) -> DigitsRes
 }
 
 // The powers of ten that pad a fraction to nine digits.
-const TENS: [u64; 10] = [
-    1,
-    10,
-    100,
-    1_000,
-    10_000,
-    100_000,
-    1_000_000,
-    10_000_000,
-    100_000_000,
-    1_000_000_000,
-];
-
 fn ten_to(k: usize) -> u64
     requires { ⌜ k ≤ 9 ⌝ }
     ensures { λ r. ⌜ r ≡ 10 ^ k ⌝ }
 {
-    TENS[k]
+    match k {
+        0 => 1,
+        1 => 10,
+        2 => 100,
+        3 => 1_000,
+        4 => 10_000,
+        5 => 100_000,
+        6 => 1_000_000,
+        7 => 10_000_000,
+        8 => 100_000_000,
+        _ => 1_000_000_000,
+    }
 }
 
 // What both sides make. A fraction of m digits counts units of 10^(9 - m) ns; one of no digits is nothing.
@@ -154,4 +152,41 @@ pub fn duration_title_tag(text: &[u8], at: usize) -> ExtinfRes
         }
         LengthRes::Fail(why) => ExtinfRes::Fail(why),
     }
+}
+
+// An EXTINF without its values: whether its length has too many digits, and the place after it. A pass that only counts needs no more.
+pub enum ExtinfEnd {
+    Fail,
+    Ok(bool, usize),
+}
+
+// Past a point with digits. A point without digits is left standing.
+fn fraction_end(text: &[u8], at: usize) -> usize
+    ensures { λ r. ⌜ r ≡ after at (opt (preceded (tag (bytes ".")) rule.counted) (now (text .entry)) at) ⌝ }
+{
+    if scan::starts_with(text, at, b".") {
+        let end = scan::digits_end(text, at + 1);
+        if at + 1 < end {
+            return end;
+        }
+    }
+    at
+}
+
+// What `duration_title_tag` takes, without the values.
+pub fn extinf_end(text: &[u8], at: usize) -> ExtinfEnd
+    ensures { λ r. ⌜ extinfEnd r ≡ endOf (rule.durationTitleTag (now (text .entry)) at) ⌝ }
+{
+    let point = scan::digits_end(text, at);
+    if point <= at {
+        return ExtinfEnd::Fail;
+    }
+    let end = fraction_end(text, point);
+    let too_many = (SIDE_DIGITS < point - at) | (SIDE_DIGITS + 1 < end - point);
+    let title = scan::after_tag(text, end, b",");
+    let title_end = scan::until_three(text, title, b'\r', b'\n', b',');
+    if text.len() <= title_end {
+        return ExtinfEnd::Fail;
+    }
+    ExtinfEnd::Ok(too_many, scan::after_tag(text, title_end + 1, b","))
 }

@@ -4,7 +4,7 @@ use mathlib.Core.Path.{_≡_, refl, sym, _∙_}
 use mathlib.Core.Bool.{true, false}
 use mathlib.Core.List.{List, [], _∷_}
 use mathlib.Core.Option.{Option, none, some}
-use Prim.Native.Nat.{ℕ, _+_, _≤_}
+use Prim.Native.Nat.{ℕ, _≤_}
 use native.Mathlib.Omega.{arith}
 use lib.Dec.{leb, eqb}
 use lib.ListN.{length, take, length-take}
@@ -23,9 +23,9 @@ use Rattle.tables.proofs.Sets.{sets-over}
 use Rattle.verdict.specs.Verdict.{master, media}
 use Rattle.verdict.specs.Calls.{textLimit, header, admitted, verdictOf}
 use Rattle.tags.specs.Tags.{Taken, took, step}
-use Rattle.media.specs.Assembly.{State, begin, lastOf, clipsOf, tagsOf, clipCount, keptTags}
+use Rattle.media.specs.Assembly.{Head, begin, lastOf, clipsOf, tagsOf, clipCount, keptTags}
 use Rattle.media.specs.Words.{clipsWords, tagsWords}
-use Rattle.media.specs.Calls.{firstStep, stepsOf, stopOf, refusedTag, unless, unlessMet, counts, counted, Read, Counts, readFrom, unlessShort, parseMediaPlaylist, clipsRead, tagsRead, ParsedAs}
+use Rattle.media.specs.Calls.{firstStep, stepsOf, stopOf, refusedTag, unless, unlessMet, counted, Read, read, readFrom, unlessShort, parseMediaPlaylist, clipsRead, tagsRead, ParsedAs}
 use Rattle.media.proofs.Records.{clips-words-length, tags-words-length}
 use Rattle.media.proofs.Counts.{count-clips}
 use Rattle.media.proofs.Passes.{stepsFrom}
@@ -50,10 +50,10 @@ pub record Begun (text : List ℕ) (at : ℕ) : Type 0 where
   pub is-media : verdictOf text ≡ media
   pub first : at ≡ firstStep text
 
--- and then the first pass came to the state s, at n
-pub record Passed (text : List ℕ) (at : ℕ) (s : State) (n : ℕ) : Type 0 where
+-- and then the first pass found what there is to give
+pub record Passed (text : List ℕ) (at : ℕ) (r : Read) : Type 0 where
   pub begun : Begun text at
-  pub came : counted text at ≡ given (counts s n)
+  pub came : counted text at ≡ given r
 
 module _ {text : List ℕ} {at : ℕ} (b : Begun text at) where
   pub begun-within : at ≤ length text
@@ -75,26 +75,24 @@ module _ {text : List ℕ} {at : ℕ} (b : Begun text at) where
   unfolding parseMediaPlaylist stepsOf stopOf
   begun-parse clipRoom tagRoom = rw (b .admits, b .is-media, b .first)
 
-module _ {text : List ℕ} {at : ℕ} {s : State} {n : ℕ} (k : Passed text at s n) where
-  passed-counts : NoneMet (stepsFrom text at) × (_≡_ {A = Answer Counts} (given (counts (lastOf begin (stepsFrom text at)) (stop (many0 step text at)))) (given (counts s n)))
+module _ {text : List ℕ} {at : ℕ} {h : Head} {made kept n : ℕ} (k : Passed text at (read h made kept n)) where
+  passed-read : NoneMet (stepsFrom text at) × (_≡_ {A = Answer Read} (given (readFrom (lastOf begin (stepsFrom text at)) (stop (many0 step text at)))) (given (read h made kept n)))
   unfolding counted
-  passed-counts = front-met (stepsFrom text at) .passed _ _ (k .came)
+  passed-read = front-met (stepsFrom text at) .passed _ _ (k .came)
 
-  passed-last : lastOf begin (stepsFrom text at) ≡ s
-  passed-last = let e = passed-counts .1 in cc
+  passed-clips : clipCount (lastOf begin (stepsFrom text at)) ≡ made
+  passed-clips = let e = passed-read .1 in cc
+
+  passed-tags : keptTags (lastOf begin (stepsFrom text at)) ≡ kept
+  passed-tags = let e = passed-read .1 in cc
 
   -- what stands behind 5 and 6
-  passed-parse : (clipRoom tagRoom : ℕ) → parseMediaPlaylist text clipRoom tagRoom ≡ unlessShort s clipRoom tagRoom (given (readFrom s n))
-  passed-parse clipRoom tagRoom =
-      let e = passed-counts .1 in
-      let z : stop (many0 step text at) ≡ n = cc in
-      begun-parse (k .begun) clipRoom tagRoom ∙ front-met (stepsFrom text at) .on _ (passed-counts .0) ∙ rw (passed-last, z)
+  passed-parse : (clipRoom tagRoom : ℕ) → parseMediaPlaylist text clipRoom tagRoom ≡ unlessShort (lastOf begin (stepsFrom text at)) clipRoom tagRoom (given (read h made kept n))
+  passed-parse clipRoom tagRoom = begun-parse (k .begun) clipRoom tagRoom ∙ front-met (stepsFrom text at) .on _ (passed-read .0) ∙ rw (passed-read .1)
 
   -- clips that fit have room for their words
-  pub passed-room : (clips : List ℕ) → clipsFit clips (clipCount s) ≡ true → length (clipsWords (clipsOf begin (stepsFrom text at))) ≤ length clips
-  passed-room clips e =
-      let c : clipCount s ≡ 0 + length (clipsOf begin (stepsFrom text at)) = rw (← passed-last) (count-clips begin (stepsFrom text at)) in
-      omega (arith, fits-words clipWords (clipCount s) clips e, clips-words-length (clipsOf begin (stepsFrom text at)))
+  pub passed-room : (clips : List ℕ) → clipsFit clips made ≡ true → length (clipsWords (clipsOf begin (stepsFrom text at))) ≤ length clips
+  passed-room clips e = omega (arith, passed-clips, count-clips begin (stepsFrom text at), fits-words clipWords made clips e, clips-words-length (clipsOf begin (stepsFrom text at)))
 
 -- ---- the exits
 abbrev pub Unchanged : {R : Type 0} → (R → Answer Read) → List ℕ → List ℕ → List ℕ → R → Type 0
@@ -116,26 +114,26 @@ module _ {R : Type 0} (view : R → Answer Read) {text clips tags : List ℕ} {r
   unfolding counted
   met {at} {ρ} {p} b q e = refuses ρ p e (begun-parse b (length clips) (length tags) ∙ front-met (stepsFrom text at) .refuses _ _ (given-refuses _ _) ρ p q)
 
-  module _ {at : ℕ} {s : State} {n : ℕ} (k : Passed text at s n) where
-    pub clips-short : clipsFit clips (clipCount s) ≡ false → view r ≡ refused clipTableShort 0 → Unchanged view text clips tags r
+  module _ {at : ℕ} {h : Head} {made kept n : ℕ} (k : Passed text at (read h made kept n)) where
+    pub clips-short : clipsFit clips made ≡ false → view r ≡ refused clipTableShort 0 → Unchanged view text clips tags r
     unfolding fits
-    clips-short f e = refuses clipTableShort 0 e (passed-parse k (length clips) (length tags) ∙ rw f)
+    clips-short f e = refuses clipTableShort 0 e (passed-parse k (length clips) (length tags) ∙ rw (passed-clips k, f))
 
-    pub tags-short : clipsFit clips (clipCount s) ≡ true → tagsFit tags (keptTags s) ≡ false → view r ≡ refused tagTableShort 0 → Unchanged view text clips tags r
+    pub tags-short : clipsFit clips made ≡ true → tagsFit tags kept ≡ false → view r ≡ refused tagTableShort 0 → Unchanged view text clips tags r
     unfolding fits
-    tags-short f g e = refuses tagTableShort 0 e (passed-parse k (length clips) (length tags) ∙ rw (f, g))
+    tags-short f g e = refuses tagTableShort 0 e (passed-parse k (length clips) (length tags) ∙ rw (passed-clips k, passed-tags k, f, g))
 
-    pub gives : {clips′ tags′ : List ℕ} → clipsFit clips (clipCount s) ≡ true → tagsFit tags (keptTags s) ≡ true → view r ≡ given (readFrom s n)
-        → clips′ ≡ sets clips 0 (clipsWords (clipsOf begin (stepsFrom text at))) → tags′ ≡ sets tags 0 (tagsWords (take (keptTags s) (tagsOf (stepsFrom text at))))
+    pub gives : {clips′ tags′ : List ℕ} → clipsFit clips made ≡ true → tagsFit tags kept ≡ true → view r ≡ given (read h made kept n)
+        → clips′ ≡ sets clips 0 (clipsWords (clipsOf begin (stepsFrom text at))) → tags′ ≡ sets tags 0 (tagsWords (take kept (tagsOf (stepsFrom text at))))
         → ParsedAs view text clips tags clips′ tags′ r
     unfolding fits clipsRead tagsRead
     gives {clips′} {tags′} f g e p q =
-        let a : parseMediaPlaylist text (length clips) (length tags) ≡ given (readFrom s n) = passed-parse k (length clips) (length tags) ∙ rw (f, g) in
+        let a : parseMediaPlaylist text (length clips) (length tags) ≡ given (read h made kept n) = passed-parse k (length clips) (length tags) ∙ rw (passed-clips k, passed-tags k, f, g) in
         let cs = clipsOf begin (stepsFrom text at) in
-        let ts = take (keptTags s) (tagsOf (stepsFrom text at)) in
-        let room : length (tagsWords ts) ≤ length tags = omega (arith, fits-words tagWords (keptTags s) tags g, tags-words-length ts, length-take (keptTags s) (tagsOf (stepsFrom text at))) in
+        let ts = take kept (tagsOf (stepsFrom text at)) in
+        let room : length (tagsWords ts) ≤ length tags = omega (arith, fits-words tagWords kept tags g, tags-words-length ts, length-take kept (tagsOf (stepsFrom text at))) in
         record {
           answered = e ∙ sym a;
           clips-after = rw (a, begun-steps (k .begun)) (p ∙ sets-over clips (clipsWords cs) (passed-room k clips f));
-          tags-after = rw (a, begun-steps (k .begun), passed-last k) (q ∙ sets-over tags (tagsWords ts) room);
+          tags-after = rw (a, begun-steps (k .begun), passed-tags k) (q ∙ sets-over tags (tagsWords ts) room);
         }

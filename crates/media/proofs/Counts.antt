@@ -1,16 +1,20 @@
--- What a reading counts: its clips are the records that it makes, its kept tags at most the tags that it meets, and neither is more than its steps.
--- By cases on a tag, then by induction on the steps. Assumes nothing.
+-- What a reading counts: its clips are the records that it makes, its kept tags at most the tags that it meets. By cases on a tag, then by induction on
+-- the steps. Assumes nothing.
 use mathlib.Core.Path.{_≡_, refl}
 use mathlib.Core.List.{List, [], _∷_}
 use Prim.Native.Nat.{ℕ, _+_, _≤_}
 use native.Mathlib.Omega.{arith}
 use lib.ListN.{length, length-append}
 use Rattle.tags.specs.Tags.{Tag, ofHead, ofClip, unknown, comment, uri, leftOut, Taken, took}
-use Rattle.media.specs.Assembly.{State, state, next, clipIn, tagIn, lastOf, clipsOf, tagsOf, clipCount, keptTags}
+use Rattle.media.specs.Assembly.{State, state, next, clipIn, tagIn, lastOf, clipsOf, tagsOf, counts, countsOf, clipCount, keptTags}
 
 -- the unknown tags so far: of the clips, and since
 abbrev pub metTags : State → ℕ
 metTags (state h s c f p) = f + p
+
+-- the counts of a state, one by one
+pub counts-back : {c f p : ℕ} (s : State) → counts c f p ≡ countsOf s → (c ≡ clipCount s) × (f ≡ keptTags s) × (f + p ≡ metTags s)
+counts-back (state h s c f p) e = (cc e, cc e, cc e)
 
 pub next-clips : (s : State) (t : Tag) → clipCount (next s t) ≡ clipCount s + length (clipIn s t)
 unfolding next
@@ -62,20 +66,3 @@ kept-met (state h s c f p) = omega arith
 -- what is kept was met
 pub kept : (s : State) (ts : List Taken) → keptTags (lastOf s ts) ≤ metTags s + length (tagsOf ts)
 kept s ts = omega (arith, kept-met (lastOf s ts), count-tags s ts)
-
--- a step makes one record at most
-pub clips-steps : (s : State) (ts : List Taken) → length (clipsOf s ts) ≤ length ts
-unfolding clipsOf
-clips-steps s [] = omega arith
-clips-steps s (took at t ∷ ts) = rw length-append (omega (arith, clip-in-one s t, clips-steps (next s t) ts))
-
-pub tags-steps : (ts : List Taken) → length (tagsOf ts) ≤ length ts
-unfolding tagsOf
-tags-steps [] = omega arith
-tags-steps (took at t ∷ ts) = rw length-append (omega (arith, tag-in-one t, tags-steps ts))
-
-pub clip-count-steps : (s : State) (ts : List Taken) → clipCount (lastOf s ts) ≤ clipCount s + length ts
-clip-count-steps s ts = omega (arith, count-clips s ts, clips-steps s ts)
-
-pub met-tags-steps : (s : State) (ts : List Taken) → metTags (lastOf s ts) ≤ metTags s + length ts
-met-tags-steps s ts = omega (arith, count-tags s ts, tags-steps ts)

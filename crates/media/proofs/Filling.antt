@@ -8,16 +8,17 @@ use native.Mathlib.Omega.{arith}
 use lib.ListN.{length, take, length-append}
 use lib.Seq.{sets, length-sets, take-nil}
 use Rattle.text.specs.Why.{Why}
+use Rattle.text.specs.Nom.{fail}
 use Rattle.text.proofs.Many.{many-stop}
 use Rattle.tables.specs.Layout.{clipWords, tagWords}
 use Rattle.tags.specs.Tags.{Tag, step}
 use Rattle.tags.proofs.Takes.{falls-step}
-use Rattle.media.specs.Assembly.{State, begin, clipIn, tagIn, clipsOf, tagsOf, clipCount, stopped, steppedFrom}
+use Rattle.media.specs.Assembly.{State, begin, next, clipIn, tagIn, clipsOf, tagsOf, counts, countsOf, clipCount}
 use Rattle.media.specs.Words.{clipsWords, tagsWords}
 use Rattle.media.proofs.Records.{clips-words-length}
-use Rattle.media.proofs.Counts.{metTags, next-clips}
+use Rattle.media.proofs.Counts.{metTags, counts-back, next-clips}
 use Rattle.media.proofs.Fills.{clips-took, clips-lay, tags-lay}
-use Rattle.media.proofs.Passes.{stepsFrom, stopped-back, TookTo, took-steps, Within, within-begin, within-next}
+use Rattle.media.proofs.Passes.{stepsFrom, TookTo, took-steps, Within, within-begin, within-next}
 
 -- the words that are left at a state and a place: of the clips, and of the tags that are kept
 abbrev pub clipsLeft : List ℕ → State → ℕ → List ℕ
@@ -48,31 +49,33 @@ filling-starts text clips tags at kept h room =
     }
 
 module _ {text clips₀ tags₀ : List ℕ} {at₀ kept : ℕ} {clips tags : List ℕ} {s : State} {at : ℕ} (f : Filling text clips₀ tags₀ at₀ kept clips tags s at) where
-  module _ {t : Tag} {n : ℕ} {m : State} (k : TookTo text at s t n m) where
-    words-more : length (clipsLeft text s at) ≡ length (clipsWords (clipIn s t)) + length (clipsLeft text m n)
-    words-more = rw (k .after, took-steps k, clips-took, length-append)
+  module _ {t : Tag} {n : ℕ} (k : TookTo text at t n) where
+    words-more : length (clipsLeft text s at) ≡ length (clipsWords (clipIn s t)) + length (clipsLeft text (next s t) n)
+    words-more = rw (took-steps k, clips-took, length-append)
 
-    -- there is room for the step's clip
-    pub filling-fits : clipCount s * clipWords + length (clipsWords (clipIn s t)) ≤ length clips
-    filling-fits = omega (arith, f .room, words-more)
+    module _ {c first pending : ℕ} (e : counts c first pending ≡ countsOf s) where
+      -- there is room for the step's clip
+      pub filling-fits : c * clipWords + length (clipsWords (clipIn s t)) ≤ length clips
+      filling-fits = omega (arith, counts-back s e .0, f .room, words-more)
 
-    pub filling-on : {clips′ tags′ : List ℕ} → clips′ ≡ sets clips (clipCount s * clipWords) (clipsWords (clipIn s t))
-        → tags′ ≡ sets tags (metTags s * tagWords) (tagsWords (take (kept - metTags s) (tagIn t))) → Filling text clips₀ tags₀ at₀ kept clips′ tags′ m n
-    filling-on {clips′} {tags′} p q =
-        let same : length clips′ ≡ length clips = rw p (length-sets clips (clipCount s * clipWords) (clipsWords (clipIn s t))) in
-        let there : clipCount m ≡ clipCount s + length (clipIn s t) = rw (k .after) (next-clips s t) in
-        record {
-          within = within-next k (f .within);
-          clips-length = same ∙ f .clips-length;
-          tags-length = rw q (length-sets tags (metTags s * tagWords) (tagsWords (take (kept - metTags s) (tagIn t))) ∙ f .tags-length);
-          room = omega (arith, f .room, words-more, clips-words-length (clipIn s t));
-          clips-left = rw (p, k .after, ← clips-lay s at t) (rw (took-steps k) at (f .clips-left));
-          tags-left = rw (q, k .after, ← tags-lay s at t) (rw (took-steps k) at (f .tags-left));
-        }
+      pub filling-on : {clips′ tags′ : List ℕ} → clips′ ≡ sets clips (c * clipWords) (clipsWords (clipIn s t))
+          → tags′ ≡ sets tags ((first + pending) * tagWords) (tagsWords (take (kept - (first + pending)) (tagIn t))) → Filling text clips₀ tags₀ at₀ kept clips′ tags′ (next s t) n
+      filling-on {clips′} {tags′} x y =
+          let p : clips′ ≡ sets clips (clipCount s * clipWords) (clipsWords (clipIn s t)) = rw (counts-back s e .0) at x in
+          let q : tags′ ≡ sets tags (metTags s * tagWords) (tagsWords (take (kept - metTags s) (tagIn t))) = rw (counts-back s e .2) at y in
+          let same : length clips′ ≡ length clips = rw p (length-sets clips (clipCount s * clipWords) (clipsWords (clipIn s t))) in
+          record {
+            within = within-next k (f .within);
+            clips-length = same ∙ f .clips-length;
+            tags-length = rw q (length-sets tags (metTags s * tagWords) (tagsWords (take (kept - metTags s) (tagIn t))) ∙ f .tags-length);
+            room = omega (arith, f .room, words-more, next-clips s t, clips-words-length (clipIn s t));
+            clips-left = rw (p, ← clips-lay s at t) (rw (took-steps k) at (f .clips-left));
+            tags-left = rw (q, ← tags-lay s at t) (rw (took-steps k) at (f .tags-left));
+          }
 
-  pub filling-ends : (why : Why) → stopped why ≡ steppedFrom s (step text at)
+  pub filling-ends : (why : Why) → step text at ≡ fail why
       → (clips ≡ sets clips₀ 0 (clipsWords (clipsOf begin (stepsFrom text at₀)))) × (tags ≡ sets tags₀ 0 (tagsWords (take kept (tagsOf (stepsFrom text at₀)))))
   unfolding clipsOf tagsOf clipsWords tagsWords
   filling-ends why e =
-      let none = many-stop step text (falls-step text) at why (stopped-back s (step text at) why e) in
+      let none = many-stop step text (falls-step text) at why e in
       (rw none at (f .clips-left), rw (none, take-nil (kept - metTags s)) at (f .tags-left))

@@ -7,10 +7,12 @@ use native.Mathlib.Nat.{sub-zero}
 use native.Mathlib.Omega.{arith}
 use lib.ListN.{length, take, length-take}
 use lib.Seq.{sets, take-nil}
+use Rattle.text.specs.Nom.{Span}
+use Rattle.text.specs.BasicTags.{ExtTag}
 use Rattle.tables.specs.Layout.{clipWords, tagWords}
 use Rattle.tables.proofs.Sets.{sets-append}
-use Rattle.tags.specs.Tags.{Tag, Taken, took}
-use Rattle.media.specs.Assembly.{State, next, clipIn, tagIn, clipsOf, tagsOf, clipCount}
+use Rattle.tags.specs.Tags.{ClipTag, Tag, ofClip, unknown, uri, Taken, took}
+use Rattle.media.specs.Assembly.{State, state, next, clip, clipIn, tagIn, clipsOf, tagsOf, segmentOf, counts, countsOf, clipCount}
 use Rattle.media.specs.Words.{clipsWords, tagsWords}
 use Rattle.media.proofs.Records.{clips-words-length, tags-words-length, clips-words-append, tags-words-append}
 use Rattle.media.proofs.Counts.{metTags, next-clips, next-tags}
@@ -19,6 +21,16 @@ take-split : {A : Type 0} (n : ℕ) (a b : List A) → take n (a ++ b) ≡ take 
 take-split n [] b = rw (take-nil n, sub-zero)
 take-split zero (x ∷ a) b = let e : 0 - length (x ∷ a) ≡ 0 = omega arith in rw e
 take-split (suc n) (x ∷ a) b = let e : suc n - suc (length a) ≡ n - length a = omega arith in rw (e, take-split n a b)
+
+-- a URI ends the clip in the making, an unknown tag and a tag of the clip end none
+pub clip-in-uri : {c f p : ℕ} (s : State) (u : Span) → counts c f p ≡ countsOf s → clipIn s (uri u) ≡ clip u (segmentOf s) f p ∷ []
+clip-in-uri (state h s c f p) u e = cc e
+
+pub clip-in-unknown : (s : State) (t : ExtTag) → clipIn s (unknown t) ≡ []
+clip-in-unknown (state h s c f p) t = refl
+
+pub clip-in-told : (s : State) (t : ClipTag) → clipIn s (ofClip t) ≡ []
+clip-in-told (state h s c f p) t = refl
 
 module _ (s : State) (at : ℕ) (t : Tag) (ts : List Taken) where
   pub clips-took : clipsWords (clipsOf s (took at t ∷ ts)) ≡ clipsWords (clipIn s t) ++ clipsWords (clipsOf (next s t) ts)

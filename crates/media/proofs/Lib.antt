@@ -1,9 +1,13 @@
 -- a record's flags do not wrap
 pub mod Flags
+-- the clip in the making, group by group
+pub mod Groups
 -- how many words records have
 pub mod Records
 -- how many clips and tags a reading counts
 pub mod Counts
+-- what a tag makes of each part of a state
+pub mod Parts
 -- where a step's words are laid
 pub mod Fills
 -- the steps, done from here

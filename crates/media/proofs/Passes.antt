@@ -1,56 +1,49 @@
 -- A pass over the steps: what is left, done from here, is the whole. Rests on the laws of `many0` and on how far a step goes.
 -- Assumes nothing.
 use mathlib.Core.Path.{_≡_, refl}
+use mathlib.Core.Bool.{true, false}
 use mathlib.Core.List.{List, _∷_}
 use mathlib.Core.Option.{none, some}
-use Prim.Native.Nat.{ℕ, _-_, _≤_, _<_}
+use Prim.Native.Nat.{ℕ, _+_, _-_, _≤_, _<_}
 use native.Mathlib.Omega.{arith}
 use lib.ListN.{length}
 use Rattle.text.specs.Why.{Why}
-use Rattle.text.specs.Nom.{Res, fail, ok}
+use Rattle.text.specs.Nom.{fail, ok, bytes, runEnd, isOneOf}
 use Rattle.text.specs.Many.{many0, items, stop}
-use Rattle.text.proofs.Takes.{bind-ok}
 use Rattle.text.proofs.Many.{many-stop, items-step, stop-step}
-use Rattle.tables.specs.Refusal.{Refusal, Answer, refused, given}
-use Rattle.tags.specs.Tags.{Tag, Taken, took, mediaPlaylistTag, step}
+use Rattle.lengths.specs.Duration.{Extinf, extinf, ns}
+use Rattle.lengths.specs.Duration as lengths
+use Rattle.tables.specs.Refusal.{Refusal, Answer, refused, given, tooManyDigits}
+use Rattle.tags.specs.Tags.{timed, Tag, ofClip, Taken, took, mediaPlaylistTag, step}
 use Rattle.tags.proofs.Takes.{takes-step, falls-step}
-use Rattle.media.specs.Assembly.{State, begin, next, lastOf, clipCount, stopped, stepped, steppedFrom}
-use Rattle.media.specs.Calls.{refusedTag, unlessMet, Counts, counts, counted}
-use Rattle.media.proofs.Counts.{metTags, next-clips, next-tags, clip-in-one, tag-in-one}
+use Rattle.lengths.specs.Duration.{isLong}
+use Rattle.media.specs.Assembly.{State, begin, next, lastOf, counts, countsOf, clipCount}
+use Rattle.media.specs.Calls.{refusedTag, unlessMet, Read, readFrom, counted}
+use Rattle.media.proofs.Counts.{metTags, counts-back, next-clips, next-tags, clip-in-one, tag-in-one}
 
 -- the steps from a place on
 abbrev pub stepsFrom : List ℕ → ℕ → List Taken
 stepsFrom text at = items (many0 step text at)
 
--- ---- a step by value says what the rule says
-module _ (s : State) where
-  pub stopped-back : (r : Res Taken) (why : Why) → stopped why ≡ steppedFrom s r → r ≡ fail why
-  stopped-back (fail w) why e = cc
-  stopped-back (ok (took from t) n) why e = cc
-
-  stepped-back : (r : Res Taken) (t : Tag) (n : ℕ) (s′ : State) → stepped t n s′ ≡ steppedFrom s r → (from : ℕ) × (r ≡ ok (took from t) n) × (s′ ≡ next s t)
-  stepped-back (fail w) t n s′ e = (0, cc, cc)
-  stepped-back (ok (took from u) m) t n s′ e = (from, cc, cc)
-
--- a step is marked with the place where it began
-step-place : (text : List ℕ) (at from n : ℕ) (t : Tag) → step text at ≡ ok (took from t) n → from ≡ at
-unfolding step
-step-place text at from n t e = let f = bind-ok (mediaPlaylistTag text at) _ (took from t) n e in cc (f .3)
-
-module _ (text : List ℕ) (at : ℕ) (s : State) where
-  -- the step from here took t up to n, and s′ is the state after it
-  pub record TookTo (t : Tag) (n : ℕ) (s′ : State) : Type 0 where
+-- ---- a step, as the passes make it: where there is no tag there is none, and else it is the tag with the blanks behind it
+module _ (text : List ℕ) (at : ℕ) where
+  -- the step from here takes t, up to n
+  pub record TookTo (t : Tag) (n : ℕ) : Type 0 where
     pub taken : step text at ≡ ok (took at t) n
-    pub after : s′ ≡ next s t
 
-  pub took-to : (t : Tag) (n : ℕ) (s′ : State) → stepped t n s′ ≡ steppedFrom s (step text at) → TookTo t n s′
-  took-to t n s′ e =
-      let b = stepped-back s (step text at) t n s′ e in
-      let p = step-place text at (b .0) n t (b .1) in
-      record { taken = rw p at (b .1); after = b .2 }
+  pub took-to : (t : Tag) (end n : ℕ) → mediaPlaylistTag text at ≡ ok t end → n ≡ runEnd (isOneOf (bytes " \t\r\n")) text end → TookTo t n
+  unfolding step
+  took-to t end n e p = record { taken = rw (e, p) }
 
-module _ {text : List ℕ} {at : ℕ} {s : State} {t : Tag} {n : ℕ} {s′ : State} (k : TookTo text at s t n s′) where
-  -- it comes nearer to the text's end
+  pub no-step : (why : Why) → mediaPlaylistTag text at ≡ fail why → step text at ≡ fail why
+  unfolding step
+  no-step why e = rw e
+
+module _ {text : List ℕ} {at : ℕ} {t : Tag} {n : ℕ} (k : TookTo text at t n) where
+  -- it ends beyond its place, nearer to the text's end
+  pub took-on : at < n
+  took-on = let m = takes-step text at n (took at t) (k .taken) in omega (arith, m .0)
+
   pub took-less : length text - n < length text - at
   took-less = falls-step text at n (took at t) (k .taken)
 
@@ -67,41 +60,54 @@ pub record Within (text : List ℕ) (at : ℕ) (s : State) : Type 0 where
 pub within-begin : (text : List ℕ) (at : ℕ) → at ≤ length text → Within text at begin
 within-begin text at h = record { clips = omega arith; tags = omega arith; place = h }
 
-pub within-next : {text : List ℕ} {at : ℕ} {s : State} {t : Tag} {n : ℕ} {s′ : State} → TookTo text at s t n s′ → Within text at s → Within text n s′
+pub within-next : {text : List ℕ} {at : ℕ} {s : State} {t : Tag} {n : ℕ} → TookTo text at t n → Within text at s → Within text n (next s t)
 within-next {text} {at} {s} {t} {n} k w =
     let m = takes-step text at n (took at t) (k .taken) in
-    rw (k .after)
-    (record {
+    record {
       clips = omega (arith, m .0, w .clips, next-clips s t, clip-in-one s t);
       tags = omega (arith, m .0, w .tags, next-tags s t, tag-in-one t);
       place = m .1 (omega (arith, m .0));
-    })
+    }
+
+pub within-counts : {text : List ℕ} {at : ℕ} {s : State} {c f p : ℕ} → Within text at s → counts c f p ≡ countsOf s → (c ≤ at) × (f + p ≤ at) × (at ≤ length text)
+within-counts {s = s} w e =
+    let b = counts-back s e in
+    (omega (arith, w .clips, b .0), omega (arith, w .tags, b .2), w .place)
 
 -- ---- the first pass: what is counted from here
-abbrev pub countedFrom : List ℕ → ℕ → State → Answer Counts
-countedFrom text at s = unlessMet (stepsFrom text at) (given (counts (lastOf s (stepsFrom text at)) (stop (many0 step text at))))
+abbrev pub countedFrom : List ℕ → ℕ → State → Answer Read
+countedFrom text at s = unlessMet (stepsFrom text at) (given (readFrom (lastOf s (stepsFrom text at)) (stop (many0 step text at))))
 
 pub record Counting (text : List ℕ) (from at : ℕ) (s : State) : Type 0 where
   pub rest : counted text from ≡ countedFrom text at s
   pub within : Within text at s
 
-pub counting-starts : {text : List ℕ} {from at : ℕ} {s : State} → s ≡ begin → at ≡ from → from ≤ length text → Counting text from at s
+pub counting-starts : {text : List ℕ} {from at : ℕ} → at ≡ from → from ≤ length text → Counting text from at begin
 unfolding counted
-counting-starts {text} {from} e p h = rw (e, p) (record { rest = refl; within = within-begin text from h })
+counting-starts {text} {from} p h = rw p (record { rest = refl; within = within-begin text from h })
 
 module _ {text : List ℕ} {from at : ℕ} {s : State} (c : Counting text from at s) where
-  pub counting-ends : (why : Why) → stopped why ≡ steppedFrom s (step text at) → given (counts s at) ≡ counted text from
+  pub counting-ends : (why : Why) → step text at ≡ fail why → given (readFrom s at) ≡ counted text from
   unfolding unlessMet lastOf
-  counting-ends why e = let m = many-stop step text (falls-step text) at why (stopped-back s (step text at) why e) in rw (c .rest, m)
+  counting-ends why e = rw (c .rest, many-stop step text (falls-step text) at why e)
 
-  module _ {t : Tag} {n : ℕ} {s′ : State} (k : TookTo text at s t n s′) where
-    pub counting-goes-on : none ≡ refusedTag t → Counting text from n s′
+  module _ {t : Tag} {n : ℕ} (k : TookTo text at t n) where
+    pub counting-goes-on : refusedTag t ≡ none → Counting text from n (next s t)
     unfolding unlessMet lastOf
     counting-goes-on e = record {
-      rest = rw (c .rest, took-steps k, stop-step step text (falls-step text) at n (took at t) (k .taken), ← e, k .after);
+      rest = rw (c .rest, took-steps k, stop-step step text (falls-step text) at n (took at t) (k .taken), e);
       within = within-next k (c .within);
     }
 
-    pub counting-refuses : (r : Refusal) → some r ≡ refusedTag t → refused r at ≡ counted text from
+    pub counting-refuses : (r : Refusal) → refusedTag t ≡ some r → refused r at ≡ counted text from
     unfolding unlessMet
-    counting-refuses r e = rw (c .rest, took-steps k, ← e)
+    counting-refuses r e = rw (c .rest, took-steps k, e)
+
+-- an EXTINF is refused where its length has too many digits, and only there
+pub long-refused : (e : Extinf) → isLong e ≡ true → refusedTag (ofClip (timed e)) ≡ some tooManyDigits
+long-refused (extinf (ns x) title) h = cc
+long-refused (extinf lengths.tooManyDigits title) h = refl
+
+pub short-taken : (e : Extinf) → isLong e ≡ false → refusedTag (ofClip (timed e)) ≡ none
+short-taken (extinf (ns x) title) h = refl
+short-taken (extinf lengths.tooManyDigits title) h = cc

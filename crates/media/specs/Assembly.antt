@@ -3,8 +3,7 @@ use Prim.Native.Nat.{ℕ, _+_}
 use mathlib.Core.Bool.{Bool, true, false}
 use mathlib.Core.List.{List, [], _∷_, _++_}
 use mathlib.Core.Option.{Option, none, some}
-use Rattle.text.specs.Why.{Why}
-use Rattle.text.specs.Nom.{Res, fail, ok, Span}
+use Rattle.text.specs.Nom.{Span}
 use Rattle.text.specs.Util.{ByteRange}
 use Rattle.text.specs.BasicTags.{ExtTag, PlaylistType}
 use Rattle.attributes.specs.ExtMap.{Map}
@@ -98,8 +97,19 @@ unfoldable pub tagsOf : List Taken → List ExtTag
 tagsOf [] = []
 tagsOf (took at t ∷ ts) = tagIn t ++ tagsOf ts
 
+-- ---- its parts
 abbrev pub headOf : State → Head
 headOf (state h s c f p) = h
+
+abbrev pub segmentOf : State → Segment
+segmentOf (state h s c f p) = s
+
+-- clips so far, unknown tags of these, unknown tags since
+pub data Counts : Type 0 where
+  counts : ℕ → ℕ → ℕ → Counts
+
+abbrev pub countsOf : State → Counts
+countsOf (state h s c f p) = counts c f p
 
 abbrev pub clipCount : State → ℕ
 clipCount (state h s c f p) = c
@@ -107,12 +117,3 @@ clipCount (state h s c f p) = c
 -- "What follows the last URI is dropped, unknown tags too."
 abbrev pub keptTags : State → ℕ
 keptTags (state h s c f p) = f
-
--- ---- a step by value: why there is none, or what was taken, the place after it, and the state then
-pub data Stepped : Type 0 where
-  stopped : Why → Stepped
-  stepped : Tag → ℕ → State → Stepped
-
-abbrev pub steppedFrom : State → Res Taken → Stepped
-steppedFrom s (fail why) = stopped why
-steppedFrom s (ok (took at t) n) = stepped t n (next s t)

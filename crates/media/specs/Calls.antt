@@ -62,19 +62,16 @@ unfoldable pub unlessMet : {A : Type 0} → List Taken → Answer A → Answer A
 unlessMet [] answer = answer
 unlessMet (t ∷ ts) answer = unlessStep t (unlessMet ts answer)
 
--- what a pass over the steps counts: the state at their end, and the place
-pub data Counts : Type 0 where
-  counts : State → ℕ → Counts
-
-unfoldable pub counted : List ℕ → ℕ → Answer Counts
-counted text at = unlessMet (items (many0 step text at)) (given (counts (lastOf begin (items (many0 step text at))) (stop (many0 step text at))))
-
 -- what is given: head, how many clips, how many kept tags, stopping place
 pub data Read : Type 0 where
   read : Head → ℕ → ℕ → ℕ → Read
 
 abbrev pub readFrom : State → ℕ → Read
 readFrom s n = read (headOf s) (clipCount s) (keptTags s) n
+
+-- a pass over the steps from a place on: what it meets first, or what there is to give
+unfoldable pub counted : List ℕ → ℕ → Answer Read
+counted text at = unlessMet (items (many0 step text at)) (given (readFrom (lastOf begin (items (many0 step text at))) (stop (many0 step text at))))
 
 -- 7, 8: by what the reading counted
 abbrev pub unlessShort : {A : Type 0} → State → ℕ → ℕ → Answer A → Answer A

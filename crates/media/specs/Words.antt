@@ -9,7 +9,7 @@ use Rattle.text.specs.BasicTags.{ExtTag, ext}
 use Rattle.attributes.specs.ExtMap.{Map, extMap}
 use Rattle.lengths.specs.Binary32.{secondsBits}
 use Rattle.tables.specs.Layout.{hasRange, hasRangeOffset, hasDiscontinuity, hasMap, hasMapRange, hasMapOffset}
-use Rattle.media.specs.Assembly.{segment, Clip, clip}
+use Rattle.media.specs.Assembly.{Segment, segment, Clip, clip}
 
 abbrev pub spanWords : Span → List ℕ
 spanWords (span a b) = a ∷ b ∷ []
@@ -45,6 +45,10 @@ mapFlags (some (extMap u r l)) = hasMap + rangeFlags hasMapRange hasMapOffset r
 
 abbrev pub flagsOf : Option ByteRange → Bool → Option Map → ℕ
 flagsOf r d m = rangeFlags hasRange hasRangeOffset r + breakFlags d + mapFlags m
+
+-- the words that a clip's tags tell, group by group: length; title; flags of range, discontinuity and map; range; map
+abbrev pub segmentWords : Segment → List (List ℕ)
+segmentWords (segment l t r d m) = (l ∷ []) ∷ partWords t ∷ (rangeFlags hasRange hasRangeOffset r ∷ breakFlags d ∷ mapFlags m ∷ []) ∷ rangeWords r ∷ mapWords m ∷ []
 
 -- "0, 1 URI start and end; 2 length in ns; 3 its binary32 bits; 4, 5 title; 6 flags; 7, 8 range length, offset; 9 to 14 map; 15 first unknown tag; 16 how many"
 unfoldable pub clipWordsOf : Clip → List ℕ

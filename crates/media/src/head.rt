@@ -78,7 +78,7 @@ impl Head {
         }
     }
 
-    pub fn next(self, t: HeadTag) -> Head
+    pub(crate) fn next(self, t: HeadTag) -> Head
         ensures { λ r. ⌜ headSeen r ≡ rule.headNext (headSeen self) (headTagOf t) ⌝ }
     {
         let mut h = self;

@@ -1,5 +1,5 @@
 // The reading of a media playlist (parser.rs, `parse_media_playlist`): step by step to head and clips, which go to the lent tables.
-// A state goes in by value and the next one comes back. One pass counts, so that a refused call has touched nothing; a second one fills.
+// One pass counts, so that a refused call has touched nothing; a second one fills.
 use crate::head::Head;
 use crate::reading::Counted;
 use tables::Refusal;
@@ -11,9 +11,10 @@ ghost use Rattle.media.specs.Calls as rule;
 ghost use Rattle.media.specs.Answers.{parseAnswer};
 
 pub mod head; // version, target, sequences, type, marks
-pub mod segment; // the clip in the making
-pub mod state; // both, with the counts; a step; a clip that a URI ends
+pub mod segment; // a clip's tags by value
+pub mod state; // where a reading is and what it has counted; a clip by value
 pub mod words; // the words of a record
+pub mod making; // the clip in the making, as words
 pub mod reading; // the two passes
 
 // What is given: the head, how many clips and kept unknown tags there are, and where the reading stopped.
@@ -48,17 +49,11 @@ pub fn parse_media_playlist(text: &[u8], clips: &mut [u64], tags: &mut [u64]) ->
             if !record::clips_fit(clips, last.clips) {
                 return ParseAnswer::Refused(Refusal::ClipTableShort, 0);
             }
-            if !record::tags_fit(tags, last.first) {
+            if !record::tags_fit(tags, last.tags) {
                 return ParseAnswer::Refused(Refusal::TagTableShort, 0);
             }
-            reading::fill(text, at, clips, tags, last.first);
-            let head = last.head;
-            ParseAnswer::Given(Read {
-                head,
-                clips: last.clips,
-                tags: last.first,
-                stop: last.at,
-            })
+            reading::fill(text, at, clips, tags, last.tags);
+            ParseAnswer::Given(last)
         }
     }
 }

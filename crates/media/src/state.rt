@@ -1,31 +1,20 @@
-// The state of a reading, and the clip that a URI ends.
+// The state of a reading, by value, and a clip by value. The first pass needs the counts alone, the second the clip in the making beside them.
+use crate::Read;
 use crate::head::Head;
+use crate::making::Making;
 use crate::segment::Segment;
 use tags::Tag;
-use tags::TagRes;
 use text::Span;
-use text::Why;
-use text::scan;
 ghost use mathlib.Core.Path.{_≡_};
-ghost use Prim.Native.Nat.{_+_, _<_, _≤_, _^_};
-ghost use lib.ListN.{length};
-ghost use Rattle.text.specs.Answers.{spanOf};
+ghost use Prim.Native.Nat.{_+_, _<_, _^_};
+ghost use Rattle.text.specs.Nom as nom;
+ghost use Rattle.tags.specs.Tags.{uri};
 ghost use Rattle.tags.specs.Answers.{tagOf};
-ghost use Rattle.tags.specs.Tags as tags;
 ghost use Rattle.media.specs.Assembly as rule;
-ghost use Rattle.media.specs.Answers.{stateSeen, clipSeen, segmentSeen, stepSeen};
+ghost use Rattle.media.specs.Calls.{readFrom};
+ghost use Rattle.media.specs.Answers.{headSeen, countsSeen, readSeen};
 
-// Where the next step begins; the head and the clip in the making; how many clips there are, how many unknown tags these have, and how many came since.
-pub struct State {
-    pub at: usize,
-    pub head: Head,
-    pub segment: Segment,
-    pub clips: usize,
-    pub first: usize,
-    pub pending: usize,
-}
-
-// A clip by value, before it is stored: its URI, what was in the making, its first unknown tag and how many.
+// A clip by value: its URI, what its tags said, its first unknown tag and how many.
 pub struct Clip {
     pub uri: Span,
     pub segment: Segment,
@@ -33,80 +22,72 @@ pub struct Clip {
     pub count: usize,
 }
 
-// Why there is no step, or what it took and the state after it.
-pub enum Step {
-    Stop(Why),
-    Took(Tag, State),
+// Where the next step begins; how many clips there are, how many unknown tags these have, and how many came since.
+pub struct Counts {
+    pub at: usize,
+    pub clips: usize,
+    pub first: usize,
+    pub pending: usize,
 }
 
-impl State {
-    pub fn new(at: usize) -> State
-        ensures { λ r. ⌜ (stateSeen r ≡ rule.begin) × (r .at ≡ at) ⌝ }
+// The counts, and the clip in the making.
+pub struct State {
+    pub counts: Counts,
+    pub making: Making,
+}
+
+impl Counts {
+    pub(crate) fn new(at: usize) -> Counts
+        ensures { λ r. ⌜ (countsSeen r ≡ rule.countsOf rule.begin) × (r .at ≡ at) ⌝ }
     {
-        State {
+        Counts {
             at,
-            head: Head::empty(),
-            segment: Segment::empty(),
             clips: 0,
             first: 0,
             pending: 0,
         }
     }
 
-    // The clip that a URI ends here.
-    pub fn clip(self, uri: Span) -> Clip
-        ensures { λ r. ⌜ clipSeen r ≡ rule.clip (spanOf uri) (segmentSeen (self .segment)) (self .first) (self .pending) ⌝ }
+    // The counts after a URI, which ended at `at`.
+    pub(crate) fn after_uri(self, at: usize) -> Counts
+        requires { ⌜ (self .clips + 1 < 2 ^ 64) × (self .first + self .pending < 2 ^ 64) ⌝ }
+        ensures { λ r. ⌜ (r .at ≡ at) × ((s : rule.State) → (u : nom.Span) → countsSeen self ≡ rule.countsOf s → countsSeen r ≡ rule.countsOf (rule.next s (uri u))) ⌝ }
     {
-        let segment = self.segment;
-        Clip {
-            uri,
-            segment,
-            first: self.first,
-            count: self.pending,
+        Counts {
+            at,
+            clips: self.clips + 1,
+            first: self.first + self.pending,
+            pending: 0,
         }
     }
 
-    // The state after a tag, which ended at `at`. Each tag takes bytes, so that no count passes the text's length.
-    fn next(self, t: Tag, at: usize) -> State
+    // The counts after a tag, which ended at `at`. Each tag takes bytes, so that no count passes the text's length.
+    pub(crate) fn next(self, t: Tag, at: usize) -> Counts
         requires { ⌜ (self .clips + 1 < 2 ^ 64) × (self .first + self .pending + 1 < 2 ^ 64) ⌝ }
-        ensures { λ r. ⌜ (stateSeen r ≡ rule.next (stateSeen self) (tagOf t)) × (r .at ≡ at) ⌝ }
+        ensures { λ r. ⌜ (r .at ≡ at) × ((s : rule.State) → countsSeen self ≡ rule.countsOf s → countsSeen r ≡ rule.countsOf (rule.next s (tagOf t))) ⌝ }
     {
-        let mut s = self;
-        s.at = at;
+        let mut c = self;
+        c.at = at;
         match t {
-            Tag::Head(t) => {
-                let head = self.head;
-                s.head = head.next(t);
-            }
-            Tag::Clip(t) => {
-                let segment = self.segment;
-                s.segment = segment.next(t);
-            }
-            Tag::Unknown(_) => s.pending += 1,
+            Tag::Unknown(_) => c.pending += 1,
+            Tag::Uri(_) => return self.after_uri(at),
+            Tag::Head(_) => {}
+            Tag::Clip(_) => {}
             Tag::Comment(_) => {}
-            Tag::Uri(_) => {
-                s.segment = Segment::empty();
-                s.clips += 1;
-                s.first += s.pending;
-                s.pending = 0;
-            }
             Tag::LeftOut(_) => {}
         }
-        s
+        c
     }
 
-    // One step: a tag, and the blanks after it.
-    pub(crate) fn step(self, text: &[u8]) -> Step
-        requires { ⌜ (self .clips ≤ self .at) × (self .first + self .pending ≤ self .at) × (self .at ≤ length (now text)) ⌝ }
-        ensures { λ r. ⌜ stepSeen r ≡ rule.steppedFrom (stateSeen self) (tags.step (now (text .entry)) (self .at)) ⌝ }
+    // What there is to give where the reading stops.
+    pub(crate) fn read(self, head: Head) -> Read
+        ensures { λ r. ⌜ ((s : rule.State) → headSeen head ≡ rule.headOf s → countsSeen self ≡ rule.countsOf s → readSeen r ≡ readFrom s (self .at)) ⌝ }
     {
-        let at = self.at;
-        match tags::media_playlist_tag(text, at) {
-            TagRes::Fail(why) => Step::Stop(why),
-            TagRes::Ok(t, after) => {
-                let next = scan::multispace0(text, after);
-                Step::Took(t, self.next(t, next))
-            }
+        Read {
+            head,
+            clips: self.clips,
+            tags: self.first,
+            stop: self.at,
         }
     }
 }

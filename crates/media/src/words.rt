@@ -1,8 +1,6 @@
 // The words of a record, in the order of the layout. What is absent is zeros.
 use crate::segment::SegmentMap;
-use crate::state::Clip;
 use attributes::ext_map::OptRange;
-use lengths::binary32;
 use tables::layout;
 use text::Part;
 use text::basic_tags::ExtTag;
@@ -14,15 +12,15 @@ ghost use Rattle.text.specs.Answers.{partOf, extTagOf};
 ghost use Rattle.attributes.specs.Answers.{rangeAt};
 ghost use Rattle.tables.specs.Layout.{flagLimit};
 ghost use Rattle.media.specs.Words as rule;
-ghost use Rattle.media.specs.Answers.{segmentMapOf, clipSeen};
+ghost use Rattle.media.specs.Answers.{segmentMapOf};
 
 // A part's start and end, or a range's length and offset.
-struct Two {
-    first: u64,
-    second: u64,
+pub(crate) struct Two {
+    pub(crate) first: u64,
+    pub(crate) second: u64,
 }
 
-fn part_words(p: Part) -> Two
+pub(crate) fn part_words(p: Part) -> Two
     ensures { λ r. ⌜ r .first ∷ r .second ∷ [] ≡ rule.partWords (partOf p) ⌝ }
 {
     match p {
@@ -37,7 +35,7 @@ fn part_words(p: Part) -> Two
     }
 }
 
-fn range_words(r: OptRange) -> Two
+pub(crate) fn range_words(r: OptRange) -> Two
     ensures { λ w. ⌜ w .first ∷ w .second ∷ [] ≡ rule.rangeWords (rangeAt r) ⌝ }
 {
     match r {
@@ -61,16 +59,16 @@ fn range_words(r: OptRange) -> Two
     }
 }
 
-struct MapWords {
-    uri_start: u64,
-    uri_end: u64,
-    range_length: u64,
-    range_offset: u64,
-    list_start: u64,
-    list_end: u64,
+pub(crate) struct MapWords {
+    pub(crate) uri_start: u64,
+    pub(crate) uri_end: u64,
+    pub(crate) range_length: u64,
+    pub(crate) range_offset: u64,
+    pub(crate) list_start: u64,
+    pub(crate) list_end: u64,
 }
 
-fn map_words(m: SegmentMap) -> MapWords
+pub(crate) fn map_words(m: SegmentMap) -> MapWords
     ensures { λ r. ⌜ r .«uri_start» ∷ r .«uri_end» ∷ r .«range_length» ∷ r .«range_offset» ∷ r .«list_start» ∷ r .«list_end» ∷ [] ≡ rule.mapWords (segmentMapOf m) ⌝ }
 {
     match m {
@@ -100,7 +98,7 @@ fn map_words(m: SegmentMap) -> MapWords
 }
 
 // `present` tells of a range, `offset` of its offset.
-fn range_flags(present: u64, offset: u64, r: OptRange) -> u64
+pub(crate) fn range_flags(present: u64, offset: u64, r: OptRange) -> u64
     requires { ⌜ present + offset < flagLimit ⌝ }
     ensures { λ f. ⌜ f ≡ rule.rangeFlags present offset (rangeAt r) ⌝ }
 {
@@ -116,17 +114,7 @@ fn range_flags(present: u64, offset: u64, r: OptRange) -> u64
     }
 }
 
-fn break_flags(discontinuity: bool) -> u64
-    ensures { λ r. ⌜ r ≡ rule.breakFlags discontinuity ⌝ }
-{
-    if discontinuity {
-        layout::HAS_DISCONTINUITY
-    } else {
-        0
-    }
-}
-
-fn map_flags(m: SegmentMap) -> u64
+pub(crate) fn map_flags(m: SegmentMap) -> u64
     ensures { λ r. ⌜ r ≡ rule.mapFlags (segmentMapOf m) ⌝ }
 {
     match m {
@@ -138,49 +126,7 @@ fn map_flags(m: SegmentMap) -> u64
     }
 }
 
-fn flags(r: OptRange, discontinuity: bool, m: SegmentMap) -> u64
-    ensures { λ f. ⌜ f ≡ rule.flagsOf (rangeAt r) discontinuity (segmentMapOf m) ⌝ }
-{
-    range_flags(layout::HAS_RANGE, layout::HAS_RANGE_OFFSET, r)
-        + break_flags(discontinuity)
-        + map_flags(m)
-}
-
-pub fn clip_words(c: Clip) -> [u64; layout::CLIP_WORDS]
-    ensures { λ r. ⌜ r ≡ rule.clipWordsOf (clipSeen c) ⌝ }
-{
-    let uri = c.uri;
-    let segment = c.segment;
-    let title = segment.title;
-    let byte_range = segment.byte_range;
-    let ext_map = segment.map;
-    let bits = binary32::seconds_bits(segment.length);
-    let title = part_words(title);
-    let flags = flags(byte_range, segment.discontinuity, ext_map);
-    let range = range_words(byte_range);
-    let map = map_words(ext_map);
-    [
-        uri.start as u64,
-        uri.end as u64,
-        segment.length,
-        bits,
-        title.first,
-        title.second,
-        flags,
-        range.first,
-        range.second,
-        map.uri_start,
-        map.uri_end,
-        map.range_length,
-        map.range_offset,
-        map.list_start,
-        map.list_end,
-        c.first as u64,
-        c.count as u64,
-    ]
-}
-
-pub fn tag_words(t: ExtTag) -> [u64; layout::TAG_WORDS]
+pub(crate) fn tag_words(t: ExtTag) -> [u64; layout::TAG_WORDS]
     ensures { λ r. ⌜ r ≡ rule.tagWordsOf (extTagOf t) ⌝ }
 {
     let name = t.tag;

@@ -7,7 +7,7 @@ use records::value;
 ghost use mathlib.Core.Path.{_≡_};
 ghost use mathlib.Core.Bool.{true};
 ghost use mathlib.Core.List.{map};
-ghost use Prim.Native.Nat.{ℕ, _+_, _^_, _≤_, _<_};
+ghost use Prim.Native.Nat.{ℕ, _+_, _*_, _^_, _≤_, _<_};
 ghost use lib.ListN.{length};
 ghost use Rattle.text.specs.Lines.{unlines};
 ghost use Rattle.tables.specs.Layout as layout;
@@ -87,6 +87,7 @@ fn clips_room(
     room: usize,
 ) -> Room
     requires { ⌜ length (now text) ≤ textLimit ⌝ }
+    requires { ⌜ «clip_count» * layout.clipWords ≤ length (now clips) ⌝ }
     requires { ⌜ ((k : ℕ) → k < «clip_count» → (clipFits (now text) (clipAt (now clips) k) ≡ true) × (clipWord (now clips) k layout.firstTag + clipWord (now clips) k layout.tagCount ≤ «tag_count»)) ⌝ }
     requires { ⌜ ((k : ℕ) → k < «tag_count» → tagFits (now text) (tagAt (now tags) k) ≡ true) ⌝ }
     ensures { λ r. ⌜ roomOf r ≡ roomFor room (length (unlines lineBytes (clipsLines (now (text .entry)) (tagsAt (now (tags .entry)) «tag_count») (clipsAt (now (clips .entry)) «clip_count»)))) ⌝ }

@@ -1,5 +1,6 @@
 // Records out of a lent table: a clip and an unknown tag by value, and rule 9 of the writer.
-// Each public function answers for every table, record and count: a word that the table does not have is 0.
+// `keeps_rule` answers for every table and count, `tag_at` for every record: a word that the table does not have is 0. `clip_at` answers for every record
+// that the table holds whole.
 
 pub mod value; // a clip and an unknown tag by value
 pub mod rule9; // whether head and tables keep the writer's rule

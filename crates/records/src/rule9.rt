@@ -1,6 +1,6 @@
 // Rule 9 of the writer: counts that fit, spans within the text, lengths with their bits, flags, zeros for what is absent, runs of tags that adjoin.
 // One pass over each table, and each function is one clause of the rule. A record's tests are joined by `&`: a table that is to be written passes them
-// all, so that none is worth a branch.
+// all, so that none is worth a branch. The count of clips is tested before them, so that the table holds each clip k whole and no word needs a test.
 use lengths::binary32;
 use media::head::Head;
 use media::head::HeadType;
@@ -10,7 +10,8 @@ use text::basic_tags::PlaylistType;
 ghost use mathlib.Core.Path.{_≡_};
 ghost use mathlib.Core.Bool.{_&&_};
 ghost use mathlib.Core.List.{List};
-ghost use Prim.Native.Nat.{ℕ};
+ghost use Prim.Native.Nat.{ℕ, _+_, _*_, _≤_, _<_};
+ghost use lib.ListN.{length};
 ghost use Rattle.tables.specs.Layout as layout;
 ghost use Rattle.tables.specs.Table.{every, clipWord};
 ghost use Rattle.media.specs.Answers.{headSeen};
@@ -56,29 +57,35 @@ fn flags_keep(flags: u64) -> bool
 
 // The span whose words stand at two places of clip k.
 fn clip_span_fits(text: &[u8], clips: &[u64], k: usize, start: usize, end: usize) -> bool
+    requires { ⌜ (k + 1) * layout.clipWords ≤ length (now clips) ⌝ }
+    requires { ⌜ start < layout.clipWords ⌝ }
+    requires { ⌜ end < layout.clipWords ⌝ }
     ensures { λ r. ⌜ r ≡ rule.spanFits (now (text .entry)) (clipWord (now (clips .entry)) k start) (clipWord (now (clips .entry)) k end) ⌝ }
 {
-    let from = record::clip_word(clips, k, start);
-    let to = record::clip_word(clips, k, end);
+    let from = record::held_word(clips, k, start);
+    let to = record::held_word(clips, k, end);
     span_fits(text, from, to)
 }
 
 // A word of clip k that belongs to a flag: without it the word is zero.
 fn zero_without(clips: &[u64], k: usize, flag: u64, place: usize) -> bool
+    requires { ⌜ (k + 1) * layout.clipWords ≤ length (now clips) ⌝ }
+    requires { ⌜ place < layout.clipWords ⌝ }
     ensures { λ r. ⌜ r ≡ rule.zeroWithout (clipWord (now (clips .entry)) k layout.flags) flag (clipWord (now (clips .entry)) k place) ⌝ }
 {
-    let flags = record::clip_word(clips, k, layout::FLAGS);
-    let word = record::clip_word(clips, k, place);
+    let flags = record::held_word(clips, k, layout::FLAGS);
+    let word = record::held_word(clips, k, place);
     record::has_flag(flags, flag) | (word == 0)
 }
 
 // The words that stand for themselves: URI, length, bits, title.
 fn plain_keep(text: &[u8], clips: &[u64], k: usize) -> bool
+    requires { ⌜ (k + 1) * layout.clipWords ≤ length (now clips) ⌝ }
     ensures { λ r. ⌜ r ≡ rule.plainKeep (now (text .entry)) (now (clips .entry)) k ⌝ }
 {
     let uri = clip_span_fits(text, clips, k, layout::URI_START, layout::URI_END);
-    let length = record::clip_word(clips, k, layout::LENGTH);
-    let bits = record::clip_word(clips, k, layout::BITS);
+    let length = record::held_word(clips, k, layout::LENGTH);
+    let bits = record::held_word(clips, k, layout::BITS);
     let nearest = binary32::seconds_bits(length);
     let title = clip_span_fits(text, clips, k, layout::TITLE_START, layout::TITLE_END);
     uri & ((length < layout::LENGTH_LIMIT) & ((bits == nearest) & title))
@@ -86,6 +93,7 @@ fn plain_keep(text: &[u8], clips: &[u64], k: usize) -> bool
 
 // The words of its range, whatever the text.
 fn range_keeps(clips: &[u64], k: usize) -> bool
+    requires { ⌜ (k + 1) * layout.clipWords ≤ length (now clips) ⌝ }
     ensures { λ r. ⌜ ((text : List ℕ) → r ≡ rule.rangeKeeps text (now (clips .entry)) k) ⌝ }
 {
     let length = zero_without(clips, k, layout::HAS_RANGE, layout::RANGE_LENGTH);
@@ -95,6 +103,7 @@ fn range_keeps(clips: &[u64], k: usize) -> bool
 
 // The words of its map.
 fn map_keeps(text: &[u8], clips: &[u64], k: usize) -> bool
+    requires { ⌜ (k + 1) * layout.clipWords ≤ length (now clips) ⌝ }
     ensures { λ r. ⌜ r ≡ rule.mapKeeps (now (text .entry)) (now (clips .entry)) k ⌝ }
 {
     let uri = clip_span_fits(text, clips, k, layout::MAP_URI_START, layout::MAP_URI_END);
@@ -109,10 +118,11 @@ fn map_keeps(text: &[u8], clips: &[u64], k: usize) -> bool
 }
 
 fn clip_keeps(text: &[u8], clips: &[u64], k: usize) -> bool
+    requires { ⌜ (k + 1) * layout.clipWords ≤ length (now clips) ⌝ }
     ensures { λ r. ⌜ r ≡ rule.clipKeeps (now (text .entry)) (now (clips .entry)) k ⌝ }
 {
     let plain = plain_keep(text, clips, k);
-    let flags = flags_keep(record::clip_word(clips, k, layout::FLAGS));
+    let flags = flags_keep(record::held_word(clips, k, layout::FLAGS));
     let range = range_keeps(clips, k);
     let map = map_keeps(text, clips, k);
     plain & (flags & (range & map))
@@ -131,6 +141,7 @@ fn tag_keeps(text: &[u8], tags: &[u64], k: usize) -> bool
 // Each clip, and the runs of their tags. `first` is where the next run begins: a run's count is compared with the tags that are left, so that no table
 // makes the sum overflow.
 fn clips_keep(text: &[u8], clips: &[u64], clip_count: usize, tag_count: u64) -> bool
+    requires { ⌜ «clip_count» * layout.clipWords ≤ length (now clips) ⌝ }
     ensures { λ r. ⌜ r ≡ every (rule.clipKeeps (now (text .entry)) (now (clips .entry))) «clip_count» && rule.runsAdjoin (now (clips .entry)) «clip_count» «tag_count» ⌝ }
 {
     let mut first: u64 = 0;
@@ -139,11 +150,11 @@ fn clips_keep(text: &[u8], clips: &[u64], clip_count: usize, tag_count: u64) -> 
         if !clip_keeps(text, clips, k) {
             return false;
         }
-        let start = record::clip_word(clips, k, layout::FIRST_TAG);
+        let start = record::held_word(clips, k, layout::FIRST_TAG);
         if start != first {
             return false;
         }
-        let count = record::clip_word(clips, k, layout::TAG_COUNT);
+        let count = record::held_word(clips, k, layout::TAG_COUNT);
         let left = tag_count - first;
         if left < count {
             return false;
@@ -167,7 +178,8 @@ fn tags_keep(text: &[u8], tags: &[u64], tag_count: usize) -> bool
     true
 }
 
-// The whole rule. The counts come first: past the table's end every word is 0, and a count that does not fit would be walked to its end.
+// The whole rule. The counts come first: the clips are read without a test of each word, and past the table's end every word of a tag is 0, so that a count
+// that does not fit would be walked to its end.
 pub fn keeps_rule(
     text: &[u8],
     head: Head,

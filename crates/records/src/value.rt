@@ -12,6 +12,8 @@ use text::basic_tags::ExtTag;
 use text::util::ByteRange;
 use text::util::Offset;
 ghost use mathlib.Core.Path.{_≡_};
+ghost use Prim.Native.Nat.{_+_, _*_, _≤_, _<_};
+ghost use lib.ListN.{length};
 ghost use Rattle.text.specs.Nom.{span};
 ghost use Rattle.text.specs.Answers.{spanOf, partOf, offsetOf, extTagOf};
 ghost use Rattle.attributes.specs.Answers.{rangeAt};
@@ -55,12 +57,15 @@ fn range_at(flags: u64, present: u64, with_offset: u64, length: u64, offset: u64
     OptRange::Present(ByteRange { length, offset })
 }
 
-// The span whose words stand at two places of clip k.
+// The span whose words stand at two places of clip k, which the table holds whole.
 fn clip_span(clips: &[u64], k: usize, start: usize, end: usize) -> Span
+    requires { ⌜ (k + 1) * layout.clipWords ≤ length (now clips) ⌝ }
+    requires { ⌜ start < layout.clipWords ⌝ }
+    requires { ⌜ end < layout.clipWords ⌝ }
     ensures { λ r. ⌜ spanOf r ≡ span (clipWord (now (clips .entry)) k start) (clipWord (now (clips .entry)) k end) ⌝ }
 {
-    let from = record::clip_word(clips, k, start);
-    let to = record::clip_word(clips, k, end);
+    let from = record::held_word(clips, k, start);
+    let to = record::held_word(clips, k, end);
     Span {
         start: from as usize,
         end: to as usize,
@@ -68,16 +73,17 @@ fn clip_span(clips: &[u64], k: usize, start: usize, end: usize) -> Span
 }
 
 fn map_at(clips: &[u64], k: usize) -> SegmentMap
+    requires { ⌜ (k + 1) * layout.clipWords ≤ length (now clips) ⌝ }
     ensures { λ r. ⌜ segmentMapOf r ≡ rule.mapAt (now (clips .entry)) k ⌝ }
 {
-    let flags = record::clip_word(clips, k, layout::FLAGS);
+    let flags = record::held_word(clips, k, layout::FLAGS);
     if !record::has_flag(flags, layout::HAS_MAP) {
         return SegmentMap::Absent;
     }
     let uri = clip_span(clips, k, layout::MAP_URI_START, layout::MAP_URI_END);
     let list = clip_span(clips, k, layout::MAP_LIST_START, layout::MAP_LIST_END);
-    let length = record::clip_word(clips, k, layout::MAP_RANGE_LENGTH);
-    let offset = record::clip_word(clips, k, layout::MAP_RANGE_OFFSET);
+    let length = record::held_word(clips, k, layout::MAP_RANGE_LENGTH);
+    let offset = record::held_word(clips, k, layout::MAP_RANGE_OFFSET);
     let byte_range = range_at(
         flags,
         layout::HAS_MAP_RANGE,
@@ -93,22 +99,24 @@ fn map_at(clips: &[u64], k: usize) -> SegmentMap
 }
 
 fn title_at(clips: &[u64], k: usize) -> Part
+    requires { ⌜ (k + 1) * layout.clipWords ≤ length (now clips) ⌝ }
     ensures { λ r. ⌜ partOf r ≡ rule.partAt (clipWord (now (clips .entry)) k layout.titleStart) (clipWord (now (clips .entry)) k layout.titleEnd) ⌝ }
 {
-    let start = record::clip_word(clips, k, layout::TITLE_START);
-    let end = record::clip_word(clips, k, layout::TITLE_END);
+    let start = record::held_word(clips, k, layout::TITLE_START);
+    let end = record::held_word(clips, k, layout::TITLE_END);
     part_at(start, end)
 }
 
-// Clip k of a table.
+// Clip k of a table that holds it whole, so that no word needs a test.
 pub fn clip_at(clips: &[u64], k: usize) -> Clip
+    requires { ⌜ (k + 1) * layout.clipWords ≤ length (now clips) ⌝ }
     ensures { λ r. ⌜ clipSeen r ≡ rule.clipAt (now (clips .entry)) k ⌝ }
 {
     let uri = clip_span(clips, k, layout::URI_START, layout::URI_END);
     let title = title_at(clips, k);
-    let flags = record::clip_word(clips, k, layout::FLAGS);
-    let length = record::clip_word(clips, k, layout::RANGE_LENGTH);
-    let offset = record::clip_word(clips, k, layout::RANGE_OFFSET);
+    let flags = record::held_word(clips, k, layout::FLAGS);
+    let length = record::held_word(clips, k, layout::RANGE_LENGTH);
+    let offset = record::held_word(clips, k, layout::RANGE_OFFSET);
     let byte_range = range_at(
         flags,
         layout::HAS_RANGE,
@@ -118,14 +126,14 @@ pub fn clip_at(clips: &[u64], k: usize) -> Clip
     );
     let map = map_at(clips, k);
     let segment = Segment {
-        length: record::clip_word(clips, k, layout::LENGTH),
+        length: record::held_word(clips, k, layout::LENGTH),
         title,
         byte_range,
         discontinuity: record::has_flag(flags, layout::HAS_DISCONTINUITY),
         map,
     };
-    let first = record::clip_word(clips, k, layout::FIRST_TAG);
-    let count = record::clip_word(clips, k, layout::TAG_COUNT);
+    let first = record::held_word(clips, k, layout::FIRST_TAG);
+    let count = record::held_word(clips, k, layout::TAG_COUNT);
     Clip {
         uri,
         segment,

@@ -1,8 +1,9 @@
-// Records in a lent table. Each public function answers for every count, record and place, and no sum or product overflows.
+// Records in a lent table. Each public function answers for every count, record and place (`held_word` for those of a clip that the table holds whole), and no sum or product overflows.
 use crate::layout;
 ghost use mathlib.Core.Path.{_≡_};
-ghost use Prim.Native.Nat.{_<_};
+ghost use Prim.Native.Nat.{_+_, _*_, _≤_, _<_};
 ghost use lib.ListN.{length};
+ghost use Rattle.tables.specs.Layout.{clipWords};
 ghost use Rattle.tables.specs.Table as rule;
 
 // The count is compared with what the table holds: count x width may be above 2^64 - 1.
@@ -43,6 +44,15 @@ pub fn clip_word(words: &[u64], clip: usize, place: usize) -> u64
     ensures { λ r. ⌜ r ≡ rule.clipWord (now (words .entry)) clip place ⌝ }
 {
     word(words, layout::CLIP_WORDS, clip, place)
+}
+
+// The word at a place of a clip that the table holds whole: no test is left to make.
+pub fn held_word(words: &[u64], clip: usize, place: usize) -> u64
+    requires { ⌜ (clip + 1) * clipWords ≤ length (now words) ⌝ }
+    requires { ⌜ place < clipWords ⌝ }
+    ensures { λ r. ⌜ r ≡ rule.clipWord (now (words .entry)) clip place ⌝ }
+{
+    words[clip * layout::CLIP_WORDS + place]
 }
 
 pub fn tag_word(words: &[u64], tag: usize, place: usize) -> u64

@@ -2,7 +2,7 @@
 pub mod Tried
 -- which tags can hold at all, by one byte of theirs
 pub mod Letters
--- how the alternatives begin, and where none but the URI can hold
+-- how a line begins: where none but the URI can hold, and where the EXTINF does
 pub mod Begins
 -- how far a step goes
 pub mod Takes

@@ -15,8 +15,8 @@ use Rattle.tags.specs.declared.Tag as tagᵈ
 use Rattle.tags.specs.declared.Tag.the-variants as tagᵛ
 use Rattle.tags.specs.declared.TagRes.{TagRes}
 use Rattle.tags.specs.declared.TagRes.the-variants as tagResᵛ
-use Rattle.tags.specs.declared.playlist.NumberRes.{NumberRes}
-use Rattle.tags.specs.declared.playlist.NumberRes.the-variants as numberᵛ
+use Rattle.tags.specs.declared.heads.NumberRes.{NumberRes}
+use Rattle.tags.specs.declared.heads.NumberRes.the-variants as numberᵛ
 use Rattle.tags.specs.Tags.{HeadTag, version, targetDuration, mediaSequence, discontinuitySequence, typed, iFramesOnly, independentSegments, endList, ClipTag, timed, ranged, discontinuity, mapped, LeftOut, start, key, programDateTime, dateRange, Tag, ofHead, ofClip, unknown, comment, uri, leftOut}
 use Rattle.tags.specs.Answers.{headTagOf, clipTagOf, leftOutOf, tagOf, tagRes, numberRes}
 

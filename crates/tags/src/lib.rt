@@ -17,9 +17,10 @@ ghost use Rattle.text.specs.Nom as nom;
 ghost use Rattle.tags.specs.Tags as rule;
 ghost use Rattle.tags.specs.Answers.{tagOf, tagRes};
 
-pub mod playlist; // the tags of a playlist's head
+pub mod heads; // the tags of a playlist's head
 pub mod segment; // the tags of a clip
 pub mod other; // unknown tags, comments, URIs
+pub mod common; // what most lines are, taken at once
 
 // What a tag says of the head.
 pub enum HeadTag {
@@ -109,7 +110,7 @@ pub fn media_playlist_tag(text: &[u8], at: usize) -> TagRes
     if text[at] != b'#' {
         return other::uri_line(text, at);
     }
-    match playlist::playlist_tag(text, at) {
+    match heads::playlist_tag(text, at) {
         TagRes::Ok(t, after) => TagRes::Ok(t, after),
         TagRes::Fail(_) => media_segment_tag(text, at),
     }

@@ -61,17 +61,42 @@ fn map_tag(text: &[u8], at: usize) -> TagRes
     }
 }
 
+fn discontinuity_tag(text: &[u8], at: usize) -> TagRes
+    ensures { λ r. ⌜ tagRes r ≡ rule.discontinuityTag (now (text .entry)) at ⌝ }
+{
+    let discontinuity = Tag::Clip(ClipTag::Discontinuity);
+    marked(text, at, b"#EXT-X-DISCONTINUITY", discontinuity)
+}
+
+fn date_range_tag(text: &[u8], at: usize) -> TagRes
+    ensures { λ r. ⌜ tagRes r ≡ rule.dateRangeTag (now (text .entry)) at ⌝ }
+{
+    let date_range = Tag::LeftOut(LeftOut::DateRange);
+    marked(text, at, b"#EXT-X-DATERANGE:", date_range)
+}
+
 // The two tags with a `D`.
 fn break_or_dates_tag(text: &[u8], at: usize) -> TagRes
     ensures { λ r. ⌜ tagRes r ≡ nom.alt rule.discontinuityTag rule.dateRangeTag (now (text .entry)) at ⌝ }
 {
-    let discontinuity = Tag::Clip(ClipTag::Discontinuity);
-    match marked(text, at, b"#EXT-X-DISCONTINUITY", discontinuity) {
-        TagRes::Ok(t, after) => return TagRes::Ok(t, after),
-        TagRes::Fail(_) => {}
+    match discontinuity_tag(text, at) {
+        TagRes::Ok(t, after) => TagRes::Ok(t, after),
+        TagRes::Fail(_) => date_range_tag(text, at),
     }
-    let date_range = Tag::LeftOut(LeftOut::DateRange);
-    marked(text, at, b"#EXT-X-DATERANGE:", date_range)
+}
+
+fn key_tag(text: &[u8], at: usize) -> TagRes
+    ensures { λ r. ⌜ tagRes r ≡ rule.keyTag (now (text .entry)) at ⌝ }
+{
+    let key = Tag::LeftOut(LeftOut::Key);
+    marked(text, at, b"#EXT-X-KEY:", key)
+}
+
+fn program_date_time_tag(text: &[u8], at: usize) -> TagRes
+    ensures { λ r. ⌜ tagRes r ≡ rule.programDateTimeTag (now (text .entry)) at ⌝ }
+{
+    let date_time = Tag::LeftOut(LeftOut::ProgramDateTime);
+    marked(text, at, b"#EXT-X-PROGRAM-DATE-TIME:", date_time)
 }
 
 // Only the tags of the letter that stands there are tried. One that fails says its own reason, which `segment_tag` drops.
@@ -89,15 +114,13 @@ fn lettered_tag(text: &[u8], at: usize) -> TagRes
         return break_or_dates_tag(text, at);
     }
     if letter == b'K' {
-        let key = Tag::LeftOut(LeftOut::Key);
-        return marked(text, at, b"#EXT-X-KEY:", key);
+        return key_tag(text, at);
     }
     if letter == b'M' {
         return map_tag(text, at);
     }
     if letter == b'P' {
-        let date_time = Tag::LeftOut(LeftOut::ProgramDateTime);
-        return marked(text, at, b"#EXT-X-PROGRAM-DATE-TIME:", date_time);
+        return program_date_time_tag(text, at);
     }
     TagRes::Fail(Why::OtherText)
 }

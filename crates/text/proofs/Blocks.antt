@@ -1,18 +1,18 @@
 -- Laws of stretches of places: what holds of two that meet holds of both, and what stays the same from place to place is the same at
 -- both ends. Assumes nothing.
-use mathlib.Core.Path.{_≡_, sym, _∙_, ap, subst}
-use mathlib.Core.Bool.{Bool, true, _&&_}
-use mathlib.Core.List.{List}
+use mathlib.Core.Path.{_≡_, refl, sym, _∙_, ap, subst}
+use mathlib.Core.Bool.{Bool, true, false, _&&_, _||_}
+use mathlib.Core.List.{List, [], _∷_}
 use Prim.Native.Nat.{ℕ, zero, suc, _+_, _-_, _≤_, _<_}
 use native.Mathlib.Nat.{le-refl, add-zero}
 use native.Mathlib.Decide.{decLe}
 use native.Mathlib.Omega.{arith}
-use lib.Dec.{leb}
-use borrow.Author.Tests.{eq-eqb, ne-eqb, leb-true}
+use lib.Dec.{leb, eqb}
+use borrow.Author.Tests.{ne-eqb, leb-true}
 use lib.ListN.{length, getD}
 use Rattle.text.specs.Nom.{bytes, isOneOf, isNoneOf, runEnd}
 use Rattle.text.specs.Utf8.{utf8End}
-use Rattle.text.proofs.Laws.{and-left, and-right, run-step}
+use Rattle.text.proofs.Laws.{and-left, and-right, or-false, run-step}
 use Rattle.text.proofs.Chars.{ascii, end-step}
 
 -- each place from a on and before b
@@ -27,6 +27,10 @@ Within lo hi text j = (lo ≤ getD text j 0) × (getD text j 0 ≤ hi)
 abbrev pub There : ℕ → ℕ → List ℕ → ℕ → Type 0
 There lo hi text j = (j < length text) × Within lo hi text j
 
+-- a byte that passes the test
+abbrev pub Passes : (ℕ → Bool) → List ℕ → ℕ → Type 0
+Passes p text j = p (getD text j 0) ≡ true
+
 module _ (P : ℕ → Type 0) where
   pub join : (a b d : ℕ) → All P a b → All P b d → All P a d
   join a b d f g j h l = go (decLe b j)
@@ -35,16 +39,28 @@ module _ (P : ℕ → Type 0) where
       go (yes m) = g j m l
       go (no m) = f j h (omega arith)
 
-  pub one : (a : ℕ) → P a → All P a (a + 1)
-  one a p j h l = let e : a ≡ j = omega arith in subst P e p
+  more : (a b : ℕ) → All P a b → P b → All P a (b + 1)
+  more a b f p = join a b (b + 1) f (λ j h l. let e : b ≡ j = omega arith in subst P e p)
+
+-- four tests, joined from the left, as a set of four joins them
+or-four : (b c d e : Bool) → (b || (c || (d || (e || false)))) ≡ (((b || c) || d) || e)
+or-four true c d e = refl
+or-four false true d e = refl
+or-four false false true e = refl
+or-four false false false e = or-false e
 
 -- one more byte is tested
-pub within-on : (text : List ℕ) (lo hi a b : ℕ) (w : Bool) → (w ≡ true → All (Within lo hi text) a b) → ((w && leb lo (getD text b 0)) && leb (getD text b 0) hi) ≡ true
-    → All (Within lo hi text) a (b + 1)
-within-on text lo hi a b w h e =
-    let first = and-left (w && leb lo (getD text b 0)) (leb (getD text b 0) hi) e in
-    join (Within lo hi text) a b (b + 1) (h (and-left w _ first))
-    (one (Within lo hi text) b (leb-true _ _ (and-right w _ first), leb-true _ _ (and-right (w && leb lo (getD text b 0)) _ e)))
+module _ (text : List ℕ) (a b : ℕ) (w : Bool) where
+  pub within-on : (lo hi : ℕ) → (w ≡ true → All (Within lo hi text) a b) → ((w && leb lo (getD text b 0)) && leb (getD text b 0) hi) ≡ true → All (Within lo hi text) a (b + 1)
+  within-on lo hi h e =
+      let first = and-left (w && leb lo (getD text b 0)) (leb (getD text b 0) hi) e in
+      more (Within lo hi text) a b (h (and-left w _ first)) (leb-true _ _ (and-right w _ first), leb-true _ _ (and-right (w && leb lo (getD text b 0)) _ e))
+
+  pub one-of-on : (s t u v : ℕ) → (w ≡ true → All (Passes (isOneOf (s ∷ t ∷ u ∷ v ∷ [])) text) a b)
+      → (w && (((eqb s (getD text b 0) || eqb t (getD text b 0)) || eqb u (getD text b 0)) || eqb v (getD text b 0))) ≡ true → All (Passes (isOneOf (s ∷ t ∷ u ∷ v ∷ [])) text) a (b + 1)
+  one-of-on s t u v h e =
+      let x = getD text b 0 in
+      more (Passes (isOneOf (s ∷ t ∷ u ∷ v ∷ [])) text) a b (h (and-left w _ e)) (or-four (eqb s x) (eqb t x) (eqb u x) (eqb v x) ∙ and-right w _ e)
 
 module _ (f : ℕ → ℕ) where
   same-by : (k a : ℕ) → All (λ j. f j ≡ f (j + 1)) a (a + k) → f a ≡ f (a + k)
@@ -58,16 +74,15 @@ module _ (f : ℕ → ℕ) where
 
 module _ (text : List ℕ) (a b : ℕ) (m : a ≤ b) where
   -- a run goes on past bytes that pass its test
-  run-on : (p : ℕ → Bool) (lo hi : ℕ) → ((x : ℕ) → lo ≤ x → x ≤ hi → p x ≡ true) → All (There lo hi text) a b → runEnd p text a ≡ runEnd p text b
-  run-on p lo hi t h = same (runEnd p text) a b m (λ j n l. let w = h j n l in run-step p text j (w .0) (t (getD text j 0) (w .1 .0) (w .1 .1)))
+  pub run-on : (p : ℕ → Bool) → All (λ j. (j < length text) × Passes p text j) a b → runEnd p text a ≡ runEnd p text b
+  run-on p h = same (runEnd p text) a b m (λ j n l. run-step p text j (h j n l .0) (h j n l .1))
 
   -- a line past bytes above CR
   pub line-on : (hi : ℕ) → All (There 14 hi text) a b → runEnd (isNoneOf (bytes "\r\n")) text a ≡ runEnd (isNoneOf (bytes "\r\n")) text b
-  line-on hi = run-on (isNoneOf (bytes "\r\n")) 14 hi (λ x k l. rw (ne-eqb 13 x (λ e. omega arith), ne-eqb 10 x (λ e. omega arith)))
-
-  -- blanks past spaces
-  pub space-on : All (There 32 32 text) a b → runEnd (isOneOf (bytes " \t\r\n")) text a ≡ runEnd (isOneOf (bytes " \t\r\n")) text b
-  space-on = run-on (isOneOf (bytes " \t\r\n")) 32 32 (λ x k l. rw (eq-eqb 32 x (omega arith)))
+  line-on hi h = run-on (isNoneOf (bytes "\r\n")) (λ j n l. (h j n l .0, above (getD text j 0) (h j n l .1 .0)))
+    where
+      above : (x : ℕ) → 14 ≤ x → isNoneOf (bytes "\r\n") x ≡ true
+      above x k = rw (ne-eqb 13 x (λ e. omega arith), ne-eqb 10 x (λ e. omega arith))
 
   -- characters past bytes below 0x80
   pub ascii-on : All (There 0 0x7F text) a b → utf8End text a ≡ utf8End text b

@@ -1,6 +1,6 @@
 -- Laws of the three questions, for any test and any text. A caller cites these, and never unfolds. Assumes nothing.
 use mathlib.Core.Path.{_≡_, refl, sym, _∙_, ap}
-use mathlib.Core.Bool.{Bool, true, false, cond, _&&_, _||_, false≢true}
+use mathlib.Core.Bool.{Bool, true, false, cond, _&&_, _||_, false≢true, and-true, and-assoc}
 use mathlib.Core.List.{List, [], _∷_, _++_}
 use Prim.Native.Nat.{ℕ, suc, _+_, _*_, _-_, _^_, _≤_, _<_, zero-le, suc-le-suc}
 use native.Mathlib.Nat.{add-zero, add-suc, suc-add, le-refl, mul-assoc, pow-succ'}
@@ -10,7 +10,7 @@ use lib.Dec.{eqb, leb}
 use borrow.Author.Tests.{eq-eqb, ne-eqb, eqb-true, leb-true}
 use lib.ListN.{length, drop, getD, drop-of-length-le, length-drop}
 use lib.Seq.{drop-cons, getD-drop}
-use Rattle.text.specs.Nom.{isOneOf, begins, tagged, run, runEnd, decimal, isDigit}
+use Rattle.text.specs.Nom.{bytes, isOneOf, begins, tagged, run, runEnd, decimal, isDigit}
 
 or-again : (b c : Bool) → (b || (b || c)) ≡ (b || c)
 or-again true c = refl
@@ -37,23 +37,22 @@ same-two a b x = same-three a b b x ∙ ap (λ (r : Bool). eqb a x || r) (or-aga
 pub same-one : (a x : ℕ) → isOneOf (a ∷ a ∷ a ∷ a ∷ []) x ≡ isOneOf (a ∷ []) x
 same-one a x = same-two a a x ∙ or-again (eqb a x) false
 
--- what is left of a tag against what is left of the text
-module _ (tag text : List ℕ) where
-  pub begins-end : (k i : ℕ) → length tag ≤ k → begins (drop k tag) (drop i text) ≡ true
-  unfolding begins
-  begins-end k i h = rw (drop-of-length-le tag h)
+-- a byte above the space is no blank
+pub above-blank : (x : ℕ) → 32 < x → isOneOf (bytes " \t\r\n") x ≡ false
+above-blank x h = rw (ne-eqb 32 x (λ e. omega arith), ne-eqb 9 x (λ e. omega arith), ne-eqb 13 x (λ e. omega arith), ne-eqb 10 x (λ e. omega arith))
 
-  pub begins-out : (k i : ℕ) → k < length tag → length text ≤ i → begins (drop k tag) (drop i text) ≡ false
+-- what is known of a tag's bytes so far, with what is left of it against what is left of the text
+module _ (tag text : List ℕ) (b : Bool) (at k : ℕ) where
+  pub begins-end : length tag ≤ k → (b && begins (drop k tag) (drop (at + k) text)) ≡ b
   unfolding begins
-  begins-out k i h l = rw (drop-cons tag k 0 h, drop-of-length-le text l)
+  begins-end h = rw (drop-of-length-le tag h) (and-true b)
 
-  pub begins-differ : (k i : ℕ) → k < length tag → i < length text → (getD text i 0 ≡ getD tag k 0 → ⊥) → begins (drop k tag) (drop i text) ≡ false
+  pub begins-step : k < length tag → at + k < length text
+      → (b && begins (drop k tag) (drop (at + k) text)) ≡ ((b && eqb (getD text (at + k) 0) (getD tag k 0)) && begins (drop (k + 1) tag) (drop (at + (k + 1)) text))
   unfolding begins
-  begins-differ k i h l e = rw (drop-cons tag k 0 h, drop-cons text i 0 l, ne-eqb _ _ e)
-
-  pub begins-step : (k i : ℕ) → k < length tag → i < length text → getD text i 0 ≡ getD tag k 0 → begins (drop k tag) (drop i text) ≡ begins (drop (k + 1) tag) (drop (i + 1) text)
-  unfolding begins
-  begins-step k i h l e = rw (drop-cons tag k 0 h, drop-cons text i 0 l, eq-eqb _ _ e, add-one k, add-one i)
+  begins-step h l =
+      let z : at + (k + 1) ≡ suc (at + k) = omega arith in
+      rw (z, drop-cons tag k 0 h, drop-cons text (at + k) 0 l, add-one k) (sym (and-assoc b _ _))
 
 run-long : (p : ℕ → Bool) (s : List ℕ) → run p s ≤ length s
 unfolding run
@@ -173,6 +172,16 @@ pub tagged-below : (t text : List ℕ) (at n : ℕ) → at ≤ n → length text
 unfolding tagged
 tagged-below t text at n h k e = omega (arith, begins-long t (drop at text) e, length-drop at text)
 
+-- one that goes past the text's end is there only if it has no bytes
+pub tagged-past : (t text : List ℕ) (at : ℕ) → length text < at + length t → tagged t text at ≡ eqb (length t) 0
+unfolding tagged
+tagged-past [] text at h = refl
+tagged-past (x ∷ t) text at h = go (begins (x ∷ t) (drop at text)) refl ∙ sym (ne-eqb (length (x ∷ t)) 0 (λ e. omega arith))
+  where
+    go : (b : Bool) → begins (x ∷ t) (drop at text) ≡ b → begins (x ∷ t) (drop at text) ≡ false
+    go true q = absurd (omega (arith, begins-long (x ∷ t) (drop at text) q, length-drop at text))
+    go false q = q
+
 -- the text does not go on with two tags that begin with different bytes
 begins-first : (x y : ℕ) (t u s : List ℕ) → (x ≡ y → ⊥) → begins (x ∷ t) s ≡ true → begins (y ∷ u) s ≡ false
 unfolding begins
@@ -211,8 +220,4 @@ tagged-longer t u text at e = begins-longer t u (drop at text) e
 -- a tag of one byte
 pub tagged-byte : (c : ℕ) (text : List ℕ) (at : ℕ) → at < length text → tagged (c ∷ []) text at ≡ eqb (getD text at 0) c
 unfolding tagged
-tagged-byte c text at h = rw (drop-cons text at 0 h) (go (eqb (getD text at 0) c))
-  where
-    go : (b : Bool) → (b && true) ≡ b
-    go true = refl
-    go false = refl
+tagged-byte c text at h = rw (drop-cons text at 0 h) (and-true (eqb (getD text at 0) c))

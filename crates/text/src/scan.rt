@@ -30,23 +30,32 @@ pub fn is_one_of(set: &[u8], b: u8) -> bool
     false
 }
 
-// Whether the text goes on with `tag` at `at`.
+// Whether the bytes from `at` on are those of `tag`. All of them are looked at, with no way out before the last, so that the compiler
+// takes many at once.
+fn same_bytes(text: &[u8], at: usize, tag: &[u8]) -> bool
+    requires { ⌜ at + length (now tag) ≤ length (now text) ⌝ }
+    ensures { λ r. ⌜ r ≡ tagged (now (tag .entry)) (now (text .entry)) at ⌝ }
+{
+    let mut same = true;
+    let mut k: usize = 0;
+    while k < tag.len() {
+        same = same & (text[at + k] == tag[k]);
+        k += 1;
+    }
+    same
+}
+
+// Whether the text goes on with `tag` at `at`. A tag without bytes is at any place, even past the text's end.
 pub fn starts_with(text: &[u8], at: usize, tag: &[u8]) -> bool
     ensures { λ r. ⌜ r ≡ tagged (now (tag .entry)) (now (text .entry)) at ⌝ }
 {
-    let mut i = at;
-    let mut k = 0;
-    while k < tag.len() {
-        if text.len() <= i {
-            return false;
-        }
-        if text[i] != tag[k] {
-            return false;
-        }
-        i += 1;
-        k += 1;
+    if text.len() < tag.len() {
+        return false;
     }
-    true
+    if text.len() - tag.len() < at {
+        return tag.len() == 0;
+    }
+    same_bytes(text, at, tag)
 }
 
 // The place after `tag` where the text goes on with it, else the same place.
@@ -149,11 +158,12 @@ pub(crate) fn within_end(text: &[u8], at: usize, size: usize, lo: u8, hi: u8) ->
     requires { ⌜ 0 < size ⌝ }
     ensures { λ r. ⌜ (at ≤ r) × ((j : ℕ) → at ≤ j → j < r → (j < length (now (text .entry))) × ((lo ≤ getD (now (text .entry)) j 0) × (getD (now (text .entry)) j 0 ≤ hi))) ⌝ }
 {
+    if text.len() < size {
+        return at;
+    }
+    let last = text.len() - size;
     let mut i = at;
-    while i < text.len() {
-        if text.len() - i < size {
-            return i;
-        }
+    while i <= last {
         if block_within(text, i, size, lo, hi) {
             i += size;
         } else {
@@ -211,8 +221,10 @@ pub fn until_one(text: &[u8], at: usize, a: u8) -> usize
     until_four(text, at, a, a, a, a)
 }
 
-// How many bytes of a line are looked at in one go.
+// How many bytes of a line are looked at in one go, and how many of what is left behind the last such block.
 const LINE_BLOCK: usize = 16;
+
+const HALF_BLOCK: usize = 8;
 
 // The byte after CR: neither it nor any above ends a line.
 const ABOVE_CR: u8 = 0x0E;
@@ -230,7 +242,8 @@ pub fn line_end(text: &[u8], at: usize) -> usize
     ensures { λ r. ⌜ r ≡ runEnd (isNoneOf (bytes "\r\n")) (now (text .entry)) at ⌝ }
 {
     let blocks = line_blocks_end(text, at, LINE_BLOCK);
-    let single = line_blocks_end(text, blocks, 1);
+    let halves = line_blocks_end(text, blocks, HALF_BLOCK);
+    let single = line_blocks_end(text, halves, 1);
     until_two(text, single, b'\r', b'\n')
 }
 
@@ -249,26 +262,55 @@ fn while_four(text: &[u8], at: usize, a: u8, b: u8, c: u8, d: u8) -> usize
     i
 }
 
-// How many spaces are passed in one go.
-const SPACE_BLOCK: usize = 16;
-
-// Past blocks of spaces. They are tried only where a space stands: most runs of blanks are empty or short.
-fn space_blocks_end(text: &[u8], at: usize) -> usize
-    ensures { λ r. ⌜ runEnd (isOneOf (bytes " \t\r\n")) (now (text .entry)) at ≡ runEnd (isOneOf (bytes " \t\r\n")) (now (text .entry)) r ⌝ }
+// Whether each of the `size` bytes at `at` is one of four. All of them are looked at, as in `block_within`.
+fn block_one_of(text: &[u8], at: usize, size: usize, a: u8, b: u8, c: u8, d: u8) -> bool
+    requires { ⌜ at + size ≤ length (now text) ⌝ }
+    ensures { λ r. ⌜ (r ≡ true → (j : ℕ) → at ≤ j → j < at + size → isOneOf (a ∷ b ∷ c ∷ d ∷ []) (getD (now (text .entry)) j 0) ≡ true) ⌝ }
 {
-    if at < text.len() {
-        if text[at] == b' ' {
-            return within_end(text, at, SPACE_BLOCK, b' ', b' ');
-        }
+    let mut all = true;
+    let mut k: usize = 0;
+    while k < size {
+        let i = at + k;
+        let x = text[i];
+        all = all & ((a == x) | (b == x) | (c == x) | (d == x));
+        k += 1;
     }
-    at
+    all
 }
 
-// Past blanks: spaces, tabs, CRs and LFs.
+// How many blanks are passed in one go.
+const BLANK_BLOCK: usize = 16;
+
+// Past the blocks of blanks from `at` on.
+fn blank_blocks_end(text: &[u8], at: usize) -> usize
+    ensures { λ r. ⌜ runEnd (isOneOf (bytes " \t\r\n")) (now (text .entry)) at ≡ runEnd (isOneOf (bytes " \t\r\n")) (now (text .entry)) r ⌝ }
+{
+    if text.len() < BLANK_BLOCK {
+        return at;
+    }
+    let last = text.len() - BLANK_BLOCK;
+    let mut i = at;
+    while i <= last {
+        if block_one_of(text, i, BLANK_BLOCK, b' ', b'\t', b'\r', b'\n') {
+            i += BLANK_BLOCK;
+        } else {
+            return i;
+        }
+    }
+    i
+}
+
+// Past blanks: spaces, tabs, CRs and LFs. Most runs of them are empty, and a byte above the space tells so at once.
 pub fn multispace0(text: &[u8], at: usize) -> usize
     ensures { λ r. ⌜ r ≡ runEnd (isOneOf (bytes " \t\r\n")) (now (text .entry)) at ⌝ }
 {
-    let blocks = space_blocks_end(text, at);
+    if text.len() <= at {
+        return at;
+    }
+    if b' ' < text[at] {
+        return at;
+    }
+    let blocks = blank_blocks_end(text, at);
     while_four(text, blocks, b' ', b'\t', b'\r', b'\n')
 }
 

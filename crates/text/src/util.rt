@@ -33,6 +33,9 @@ pub enum Parsed {
     Value(u64, usize),
 }
 
+// Up to this value ten times it and any digit fit, so that the division is made for the last digits of large numbers only.
+const SAFE: u64 = 1_844_674_407_370_955_160;
+
 const LARGEST: u64 = 18_446_744_073_709_551_615;
 
 fn digit_value(b: u8) -> u64
@@ -62,8 +65,10 @@ pub fn number(text: &[u8], at: usize) -> Parsed
         let b = text[i];
         if scan::is_digit(b) {
             let d = digit_value(b);
-            if (LARGEST - d) / 10 < v {
-                return Parsed::TooLarge(scan::digits_end(text, i));
+            if SAFE < v {
+                if (LARGEST - d) / 10 < v {
+                    return Parsed::TooLarge(scan::digits_end(text, i));
+                }
             }
             v = v * 10 + d;
             i += 1;

@@ -1,7 +1,7 @@
 //! The library and the crate m3u8-rs on the same texts, in one run: how many times as fast the library is.
 //!
-//! Each measure alternates between the two sides and keeps the best of several rounds on each, so that what else the
-//! machine does weighs on both. A side's work is what a user calls: the crate's lists are made and dropped, the
+//! Each measure alternates between the two sides in short rounds and keeps the best round of each, so that what else
+//! the machine does weighs on both. A side's work is what a user calls: the crate's lists are made and dropped, the
 //! library's tables are lent once and filled.
 
 #![no_main] // the usual start-up of Rust's library stops under the emulator that Arm machines use
@@ -15,8 +15,9 @@ mod texts;
 
 use ledgerfern::Tables;
 
-const ROUNDS: usize = 9;
-const ROUND: Duration = Duration::from_millis(30);
+const FEWEST_ROUNDS: usize = 9;
+const ROUND: Duration = Duration::from_millis(3);
+const MEASURE: Duration = Duration::from_millis(1500);
 
 /// The same value, of which the compiler knows nothing (std::hint::black_box is younger than Debian's compiler).
 fn black_box<T>(value: T) -> T {
@@ -55,9 +56,12 @@ impl<'a> Side<'a> {
 fn compare(what: &str, name: &str, ours: impl FnMut(), theirs: impl FnMut()) {
     let mut ours = Side::new(ours);
     let mut theirs = Side::new(theirs);
-    for _ in 0..ROUNDS {
+    let start = Instant::now();
+    let mut rounds = 0;
+    while rounds < FEWEST_ROUNDS || start.elapsed() < MEASURE {
         ours.round();
         theirs.round();
+        rounds += 1;
     }
     println!("{what} {name} {:.1}x  ({:.1} us, the crate {:.1} us)", theirs.best / ours.best, ours.best * 1e6, theirs.best * 1e6);
 }

@@ -1,11 +1,11 @@
--- `fraction_size`: what is left has as many digits as the fraction, and so many places. The places fall. Rests on `Trimming`. Assumes nothing.
+-- `fraction_size`: what is left has the digits of the fraction, and so many places. The places fall. Rests on `Trimming`. Assumes nothing.
 use borrow.Author.Needs.{needs}
 use native.Mathlib.Omega.{arith}
 use Prim.Native.Nat.{_-_, _/_, _<_}
 use mathlib.Core.Path.{sym, ap}
 use lib.ListN.{length}
 use Rattle.digits.proofs.Length.{fraction-whole}
-use Rattle.digits.proofs.Loops.{Trimming, trim-none, trim-more, trim-end}
+use Rattle.digits.proofs.Loops.{Trimming, trim-more, trim-end}
 use Rattle.digits.proofs.fraction_size.Statement.{statement}
 use Rattle.digits.proofs.fraction_size.Tie as tie
 
@@ -18,10 +18,13 @@ abbrev μ-loop : tie.MeasureT-loop
 returns : tie.Need-returns Inv-loop μ-loop
 returns c = (sym (ap length (fraction-whole (c .before .args .f) (search needs))), search needs)
 
-loop-holds : tie.Need-loop-holds Inv-loop μ-loop
-loop-holds c = trim-none (c .before .args .f) (search needs) (search needs)
+without-threes-requires : tie.Need-without-threes-requires Inv-loop μ-loop
+without-threes-requires c κs = search needs
 
-turn : (c : tie.In-loop Inv-loop μ-loop) → (0 < c .before .loop .size) × Trimming (c .before .before .before .args .f) (c .before .loop .size - 1) (c .before .loop .left / 10)
+loop-holds : tie.Need-loop-holds Inv-loop μ-loop
+loop-holds c = let e = c .without-threes .ensures in record { same = e .0; some = e .1 .0; below = e .1 .1; most = e .1 .2 }
+
+turn : (c : tie.In-loop Inv-loop μ-loop) → (0 < c .before .loop .size) × Trimming (c .before .before .before .before .args .f) (c .before .loop .size - 1) (c .before .loop .left / 10)
 turn c = trim-more _ _ _ (c .before .loop .inv) (search needs)
 
 sub-size : tie.Need-sub-size Inv-loop μ-loop
@@ -46,6 +49,7 @@ fraction-size-spec =
     Inv-loop
     μ-loop
     returns
+    without-threes-requires
     loop-holds
     sub-size
     loop-less

@@ -10,14 +10,15 @@ use Rattle.tables.specs.Table.{clipsFit, tagsFit}
 use Rattle.tables.proofs.Records.{fits-words}
 use Rattle.verdict.specs.Calls.{admitted}
 use Rattle.verdict.specs.Answers.{admission, verdictSeen}
-use Rattle.media.specs.declared.state.State.{State}
+use Rattle.media.specs.declared.Read.{Read}
 use Rattle.media.specs.Calls.{firstStep}
-use Rattle.media.specs.Answers.{stateSeen, countedOf, parseAnswer}
+use Rattle.media.specs.Answers.{readSeen, countedOf, parseAnswer}
 use Rattle.media.proofs.Answered.{Begun, Passed, begun-within, passed-room, not-admitted, not-media, met, clips-short, tags-short, gives}
 use Rattle.media.proofs.parse_media_playlist.Statement.{statement}
 use Rattle.media.proofs.parse_media_playlist.Tie as tie
 
--- places on the way back: from the state to where the steps begin, from there to the call; from the room for clips to the state, from that for tags to clips
+-- places on the way back: from what the first pass found to where the steps begin, from there to the call; from the room for clips to what was found, from
+-- that for tags to clips
 abbrev entry : tie.After-multispace0 → tie.Start
 entry c = c .before .before .before .before .before .before .before .before .before .before
 
@@ -30,8 +31,8 @@ read c = c .before .before .before .before
 abbrev roomy : tie.Else2 → tie.Else1
 roomy c = c .before .before .before
 
--- what the first pass came to
-abbrev last : tie.After-last → State
+-- what there is to give
+abbrev last : tie.After-last → Read
 last c = c .last .given .0 .0
 
 text-admitted : (c : tie.After-enum-told) → admitted (now (c .before .before .before .before .before .before .args .text)) ≡ given tt
@@ -45,13 +46,13 @@ begun c = record {
   first = c .multispace0 .ensures;
 }
 
-passed : (c : tie.After-last) → Passed (now (entry (skipped c) .args .text)) (skipped c .multispace0 .result) (stateSeen (last c)) (last c .at)
+passed : (c : tie.After-last) → Passed (now (entry (skipped c) .args .text)) (skipped c .multispace0 .result) (readSeen (last c))
 passed c = record { begun = begun (skipped c); came = sym (c .before .before .count .ensures) ∙ ap countedOf (c .last .given .1) }
 
 clips-room : (c : tie.Else1) → clipsFit (now (entry (skipped (read c)) .args .clips)) (last (read c) .clips) ≡ true
 clips-room c = sym (c .before .clips-fit .ensures) ∙ sym (Bool·not-not _) ∙ ap not (c .if1 .left)
 
-tags-room : (c : tie.Else2) → tagsFit (now (entry (skipped (read (roomy c))) .args .tags)) (last (read (roomy c)) .first) ≡ true
+tags-room : (c : tie.Else2) → tagsFit (now (entry (skipped (read (roomy c))) .args .tags)) (last (read (roomy c)) .tags) ≡ true
 tags-room c = sym (c .before .tags-fit .ensures) ∙ sym (Bool·not-not _) ∙ ap not (c .if2 .left)
 
 admit-requires : tie.Need-admit-requires
@@ -109,10 +110,15 @@ same-length-3 : tie.Need-same-length-3
 same-length-3 c = search needs
 
 returns-4 : tie.Need-returns-4
-returns-4 c = let h = c .before .before .before in tags-short parseAnswer (passed (read h)) (clips-room h) (sym (c .before .tags-fit .ensures) ∙ sym (Bool·not-not _) ∙ ap not (c .if2 .taken)) refl
+returns-4 c =
+    let h = c .before .before .before in
+    tags-short parseAnswer (passed (read h)) (clips-room h) (sym (c .before .tags-fit .ensures) ∙ sym (Bool·not-not _) ∙ ap not (c .if2 .taken)) refl
 
 fill-requires : tie.Need-fill-requires
-fill-requires c κs = let g = c .before .before in let k = passed (read (roomy g)) in (begun-within (k .begun), passed-room k _ (clips-room (roomy g)), fits-words tagWords _ _ (tags-room g))
+fill-requires c κs =
+    let g = c .before .before in
+    let k = passed (read (roomy g)) in
+    (begun-within (k .begun), passed-room k _ (clips-room (roomy g)), fits-words tagWords _ _ (tags-room g))
 
 returns-5 : tie.Need-returns-5
 returns-5 c = met parseAnswer (begun (c .before .before .before .before)) (sym (c .before .before .before .count .ensures) ∙ ap countedOf (c .before .r2 .given .1)) refl
@@ -124,7 +130,10 @@ same-length-5 : tie.Need-same-length-5
 same-length-5 c = search needs
 
 returns-6 : tie.Need-returns-6
-returns-6 c = let g = c .before .before .before .before .before .before .before .before in let laid = c .before .before .before .before .before .fill .ensures in gives parseAnswer (passed (read (roomy g))) (clips-room (roomy g)) (tags-room g) refl (laid .0) (laid .1)
+returns-6 c =
+    let f = c .before .before .before .before in
+    let g = f .before .before .before in
+    gives parseAnswer (passed (read (roomy g))) (clips-room (roomy g)) (tags-room g) refl (f .fill .ensures .0) (f .fill .ensures .1)
 
 pub parse-media-playlist-spec : {M : Type 1} → statement M
 parse-media-playlist-spec =

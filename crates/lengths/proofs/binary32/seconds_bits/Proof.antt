@@ -5,7 +5,7 @@ use native.Mathlib.Omega.{arith}
 use borrow.Author.Needs.{needs}
 use Rattle.lengths.specs.Binary32.{secondsBits}
 use Rattle.lengths.specs.Examples.{zero-bits}
-use Rattle.lengths.proofs.Scaled.{Scaled, scaled, unit-fits, digits-le, bits-are}
+use Rattle.lengths.proofs.Scaled.{Scaled, scaled, unit-fits, quotient-moved, digits-le, bits-are}
 use Rattle.lengths.proofs.binary32.seconds_bits.Statement.{statement}
 use Rattle.lengths.proofs.binary32.seconds_bits.Tie as tie
 
@@ -27,8 +27,16 @@ sub-shift c = omega (arith, moved c)
 shifted-requires-2 : tie.Need-shifted-requires-2
 shifted-requires-2 c κs = (omega arith, omega (arith, unit-fits (moved c)))
 
+cast-nearest : tie.Need-cast-nearest
+cast-nearest c = search needs
+
+shr-nearest : tie.Need-shr-nearest
+shr-nearest c = omega arith
+
 nearest-requires : tie.Need-nearest-requires
-nearest-requires c κs = omega (arith, unit-fits (moved (c .before)), c .shifted2 .ensures)
+nearest-requires c κs =
+    let u = unit-fits (moved (c .before)) in
+    (omega (arith, u, c .shifted2 .ensures), omega (arith, u, c .shifted2 .ensures), quotient-moved _ _ (c .shifted2 .ensures))
 
 add-exponent : tie.Need-add-exponent
 add-exponent c = search needs
@@ -57,6 +65,8 @@ seconds-bits-spec =
     sub-highest
     sub-shift
     shifted-requires-2
+    cast-nearest
+    shr-nearest
     nearest-requires
     add-exponent
     sub-exponent

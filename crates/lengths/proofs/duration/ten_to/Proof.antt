@@ -1,17 +1,53 @@
--- `lengths::duration::ten_to` meets its contract: the table is right. Assumes nothing.
-use borrow.Author.Needs.{needs}
-use Rattle.lengths.proofs.Sides.{ten-to}
+-- `lengths::duration::ten_to` meets its contract: by cases. Assumes nothing.
+use mathlib.Core.Path.{_≡_}
+use native.Mathlib.Nat.{le-antisymm}
+use Rattle.lengths.proofs.Sides.{none-below}
 use Rattle.lengths.proofs.duration.ten_to.Statement.{statement}
 use Rattle.lengths.proofs.duration.ten_to.Tie as tie
 
-mul-result : tie.Need-mul-result
-mul-result c = search needs
-
-array-read-result : tie.Need-array-read-result
-array-read-result c = search needs
-
 returns : tie.Need-returns
-returns c = ten-to (c .args .k) (c .pre)
+returns c = rw (c .match .keys1)
+
+returns-2 : tie.Need-returns-2
+returns-2 c = rw (c .match .keys2)
+
+returns-3 : tie.Need-returns-3
+returns-3 c = rw (c .match .keys3)
+
+returns-4 : tie.Need-returns-4
+returns-4 c = rw (c .match .keys4)
+
+returns-5 : tie.Need-returns-5
+returns-5 c = rw (c .match .keys5)
+
+returns-6 : tie.Need-returns-6
+returns-6 c = rw (c .match .keys6)
+
+returns-7 : tie.Need-returns-7
+returns-7 c = rw (c .match .keys7)
+
+returns-8 : tie.Need-returns-8
+returns-8 c = rw (c .match .keys8)
+
+returns-9 : tie.Need-returns-9
+returns-9 c = rw (c .match .keys9)
+
+returns-10 : tie.Need-returns-10
+returns-10 c =
+    let k : c .before .args .k ≡ 9 = le-antisymm (c .before .pre) (none-below 9 _ (c .match .rest)) in
+    rw k
 
 pub ten-to-spec : {M : Type 1} → statement M
-ten-to-spec = tie.close (tie.spec mul-result array-read-result returns)
+ten-to-spec =
+    tie.close
+    (tie.spec
+    returns
+    returns-2
+    returns-3
+    returns-4
+    returns-5
+    returns-6
+    returns-7
+    returns-8
+    returns-9
+    returns-10)

@@ -1,69 +1,122 @@
--- `count` meets its contract: what the loop keeps (`Counting`) holds at its start, goes on by a step that is not refused, and says it all at each exit. The
--- measure is what is left of the text. Assumes nothing.
+-- `count` meets its contract: what the loop keeps (`Counting`, with a state of the rule behind the head and the counts) holds at its start, goes on by a
+-- step that is not refused, and says it all at each exit. What a step says is what `Counts::step` ensures. The measure is what is left of the text.
+-- Assumes nothing.
 use borrow.Author.Needs.{needs}
-use Prim.Native.Nat.{_-_}
+use Prim.Native.Nat.{ℕ, _-_}
 use lib.ListN.{length}
-use mathlib.Core.Path.{sym, _∙_, ap}
+use mathlib.Core.Path.{_≡_, refl, sym, _∙_, ap}
+use mathlib.Core.List.{List}
 use denote.Ref.{now}
-use Rattle.tags.specs.Answers.{tagOf}
-use Rattle.media.specs.declared.state.State.{State}
-use Rattle.media.specs.Answers.{stateSeen, stepSeen, metOf}
-use Rattle.media.proofs.Passes.{TookTo, took-to, took-less, Counting, counting-starts, counting-ends, counting-goes-on, counting-refuses}
+use Rattle.tables.specs.Refusal.{given}
+use Rattle.tags.specs.Tags.{ofHead}
+use Rattle.tags.specs.Answers.{headTagOf}
+use Rattle.media.specs.declared.reading.CountStep.{CountStep}
+use Rattle.media.specs.declared.reading.CountStep.the-variants as stepᵛ
+use Rattle.media.specs.Assembly.{State, begin, headNext, next, headOf, countsOf}
+use Rattle.media.specs.Answers.{headSeen, countsSeen, countSays}
+use Rattle.media.proofs.Parts.{head-next}
+use Rattle.media.proofs.Passes.{TookTo, took-less, within-counts, Counting, counting-starts, counting-ends, counting-goes-on, counting-refuses}
 use Rattle.media.proofs.reading.count.Statement.{statement}
 use Rattle.media.proofs.reading.count.Tie as tie
 
 abbrev Inv-loop : tie.InvT-loop
-Inv-loop text at s₀ s = Counting text at (s .at) (stateSeen s)
+Inv-loop text at c₀ head₀ c head = (s : State) × Counting text at (c .at) s × (headSeen head ≡ headOf s) × (countsSeen c ≡ countsOf s)
 
 abbrev μ-loop : tie.MeasureT-loop
-μ-loop text at s₀ s = length text - s .at
+μ-loop text at c₀ head₀ c head = length text - c .at
 
--- at a turn that took a tag: the loop's head, and the state after the step
-abbrev turn : tie.After-t Inv-loop μ-loop → tie.At-loop Inv-loop μ-loop
-turn c = c .before .before .before
+-- ---- a turn: its text, what its step says, and where that goes
+abbrev read : tie.At-loop Inv-loop μ-loop → List ℕ
+read l = now (l .before .before .before .before .args .text)
 
-abbrev after : tie.After-t Inv-loop μ-loop → State
-after c = c .t .given .0 .1 .0
+abbrev Said : tie.At-loop Inv-loop μ-loop → CountStep → Type 0
+Said l r = countSays r (l .loop .c) (read l)
 
-took-here : (c : tie.After-t Inv-loop μ-loop)
-    → TookTo (now (turn c .before .before .before .args .text)) (turn c .loop .s .at) (stateSeen (turn c .loop .s)) (tagOf (c .t .given .0 .0)) (after c .at) (stateSeen (after c))
-took-here c = took-to _ _ _ _ _ _ (sym (ap stepSeen (c .t .given .1)) ∙ c .before .before .step .ensures)
+abbrev turn-next : tie.After-next Inv-loop μ-loop → tie.At-loop Inv-loop μ-loop
+turn-next c = c .before .before .before
 
+said-next : (c : tie.After-next Inv-loop μ-loop) → Said (turn-next c) (stepᵛ.Next (c .next .given .0 .0))
+said-next c = rw (c .next .given .1) at (c .before .before .step .ensures)
+
+took-next : (c : tie.After-next Inv-loop μ-loop) → TookTo (read (turn-next c)) (turn-next c .loop .c .at) (said-next c .0) (c .next .given .0 .0 .at)
+took-next c = record { taken = said-next c .1 }
+
+abbrev turn-told : tie.After-t Inv-loop μ-loop → tie.At-loop Inv-loop μ-loop
+turn-told c = c .before .before .before
+
+said-told : (c : tie.After-t Inv-loop μ-loop) → Said (turn-told c) (stepᵛ.Told (c .t .given .0 .0) (c .t .given .0 .1 .0))
+said-told c = rw (c .t .given .1) at (c .before .before .step .ensures)
+
+took-told : (c : tie.After-t Inv-loop μ-loop) → TookTo (read (turn-told c)) (turn-told c .loop .c .at) (ofHead (headTagOf (c .t .given .0 .0))) (c .t .given .0 .1 .0 .at)
+took-told c = record { taken = said-told c .0 }
+
+-- ---- the needs
 new-requires : tie.Need-new-requires Inv-loop μ-loop
 new-requires c κs = search needs
 
+empty-requires : tie.Need-empty-requires Inv-loop μ-loop
+empty-requires c κs = search needs
+
 loop-holds : tie.Need-loop-holds Inv-loop μ-loop
-loop-holds c = counting-starts (c .new .ensures .0) (c .new .ensures .1) (c .before .before .pre)
+loop-holds c =
+    let made = c .before .new .ensures in
+    (begin, counting-starts (made .1) (c .before .before .before .pre), c .empty .ensures, made .0)
 
 step-requires : tie.Need-step-requires Inv-loop μ-loop
-step-requires c κs = let w = c .loop .inv .within in (w .clips, w .tags, w .place)
+step-requires c κs = let i = c .loop .inv in within-counts (i .1 .within) (i .3)
 
 enum-told : tie.Need-enum-told Inv-loop μ-loop
 enum-told c = search needs
 
+read-requires : tie.Need-read-requires Inv-loop μ-loop
+read-requires c κs = search needs
+
 returns : tie.Need-returns Inv-loop μ-loop
-returns c = counting-ends (c .before .before .before .loop .inv) _ (sym (ap stepSeen (c .enum-told .given .1)) ∙ c .before .before .step .ensures)
-
-enum-known-t : tie.Need-enum-known-t Inv-loop μ-loop
-enum-known-t c = search needs
-
-refused-for-requires : tie.Need-refused-for-requires Inv-loop μ-loop
-refused-for-requires c κs = search needs
-
-enum-told-2 : tie.Need-enum-told-2 Inv-loop μ-loop
-enum-told-2 c = search needs
-
-loop-less : tie.Need-loop-less Inv-loop μ-loop
-loop-less c = took-less (took-here (c .before .before .before .before))
-
-loop-again : tie.Need-loop-again Inv-loop μ-loop
-loop-again c = let t = c .before .before .before .before in counting-goes-on (turn t .loop .inv) (took-here t) (sym (ap metOf (c .enum-told2 .given .1)) ∙ c .before .before .refused-for .ensures)
+returns c =
+    let d = c .before .before .before in
+    let l = d .before in
+    let said : Said l stepᵛ.Stop = rw (c .before .enum-told .given .1) at (d .step .ensures) in
+    let i = l .loop .inv in
+    ap given (c .read .ensures (i .0) (i .2) (i .3)) ∙ counting-ends (i .1) (said .0) (said .1)
 
 enum-known-r : tie.Need-enum-known-r Inv-loop μ-loop
 enum-known-r c = search needs
 
 returns-2 : tie.Need-returns-2 Inv-loop μ-loop
-returns-2 c = let t = c .before .before .before .before .before in counting-refuses (turn t .loop .inv) (took-here t) _ (sym (ap metOf (c .before .r .given .1)) ∙ c .before .before .before .refused-for .ensures)
+returns-2 c =
+    let d = c .before .before .before in
+    let l = d .before in
+    let said : Said l (stepᵛ.Refused (c .before .r .given .0 .0)) = rw (c .before .r .given .1) at (d .step .ensures) in
+    counting-refuses (l .loop .inv .1) (record { taken = said .2 }) _ (said .3)
+
+enum-known-next : tie.Need-enum-known-next Inv-loop μ-loop
+enum-known-next c = search needs
+
+loop-less : tie.Need-loop-less Inv-loop μ-loop
+loop-less c = took-less (took-next (c .before))
+
+loop-again : tie.Need-loop-again Inv-loop μ-loop
+loop-again c =
+    let i = turn-next (c .before) .loop .inv in
+    let said = said-next (c .before) in
+    (next (i .0) (said .0), counting-goes-on (i .1) (took-next (c .before)) (said .2), i .2 ∙ sym (said .3 (i .0)), said .4 (i .0) (i .3))
+
+enum-known-t : tie.Need-enum-known-t Inv-loop μ-loop
+enum-known-t c = search needs
+
+next-requires : tie.Need-next-requires Inv-loop μ-loop
+next-requires c κs = search needs
+
+loop-less-2 : tie.Need-loop-less-2 Inv-loop μ-loop
+loop-less-2 c = took-less (took-told (c .before .before))
+
+loop-again-2 : tie.Need-loop-again-2 Inv-loop μ-loop
+loop-again-2 c =
+    let t = c .before .before in
+    let i = turn-told t .loop .inv in
+    let h = headTagOf (t .t .given .0 .0) in
+    let told = c .next2 .ensures ∙ ap (λ x. headNext x h) (i .2) ∙ sym (head-next (i .0) (ofHead h)) in
+    (next (i .0) (ofHead h), counting-goes-on (i .1) (took-told t) refl, told, said-told t .1 (i .0) (i .3))
 
 pub count-spec : {M : Type 1} → statement M
 count-spec =
@@ -72,14 +125,18 @@ count-spec =
     Inv-loop
     μ-loop
     new-requires
+    empty-requires
     loop-holds
     step-requires
     enum-told
+    read-requires
     returns
-    enum-known-t
-    refused-for-requires
-    enum-told-2
+    enum-known-r
+    returns-2
+    enum-known-next
     loop-less
     loop-again
-    enum-known-r
-    returns-2)
+    enum-known-t
+    next-requires
+    loop-less-2
+    loop-again-2)

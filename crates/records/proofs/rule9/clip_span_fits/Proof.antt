@@ -3,18 +3,18 @@ use borrow.Author.Needs.{needs}
 use Rattle.records.proofs.rule9.clip_span_fits.Statement.{statement}
 use Rattle.records.proofs.rule9.clip_span_fits.Tie as tie
 
-clip-word-requires : tie.Need-clip-word-requires
-clip-word-requires c κs = search needs
+held-word-requires : tie.Need-held-word-requires
+held-word-requires c κs = search needs
 
-clip-word-requires-2 : tie.Need-clip-word-requires-2
-clip-word-requires-2 c κs = search needs
+held-word-requires-2 : tie.Need-held-word-requires-2
+held-word-requires-2 c κs = search needs
 
 span-fits-requires : tie.Need-span-fits-requires
 span-fits-requires c κs = search needs
 
 returns : tie.Need-returns
-returns c = rw (← c .before .before .clip-word .ensures, ← c .before .clip-word2 .ensures) (c .span-fits .ensures)
+returns c = rw (← c .before .before .held-word .ensures, ← c .before .held-word2 .ensures) (c .span-fits .ensures)
 
 pub clip-span-fits-spec : {M : Type 1} → statement M
 clip-span-fits-spec =
-    tie.close (tie.spec clip-word-requires clip-word-requires-2 span-fits-requires returns)
+    tie.close (tie.spec held-word-requires held-word-requires-2 span-fits-requires returns)

@@ -22,20 +22,20 @@ clip-keeps-requires c κs = search needs
 returns : tie.Need-returns Inv-loop μ-loop
 returns c = sym (broken-clip (c .before .before .before .loop .inv) (c .before .before .loop-test .taken) (sym (c .before .clip-keeps .ensures) ∙ not-true _ (c .if1 .taken)))
 
-clip-word-requires : tie.Need-clip-word-requires Inv-loop μ-loop
-clip-word-requires c κs = search needs
+held-word-requires : tie.Need-held-word-requires Inv-loop μ-loop
+held-word-requires c κs = search needs
 
 returns-2 : tie.Need-returns-2 Inv-loop μ-loop
-returns-2 c = sym (broken-start (c .before .before .before .before .before .loop .inv) (c .before .before .before .before .loop-test .taken) (c .before .clip-word .ensures) (c .if2 .taken))
+returns-2 c = sym (broken-start (c .before .before .before .before .before .loop .inv) (c .before .before .before .before .loop-test .taken) (c .before .held-word .ensures) (c .if2 .taken))
 
-clip-word-requires-2 : tie.Need-clip-word-requires-2 Inv-loop μ-loop
-clip-word-requires-2 c κs = search needs
+held-word-requires-2 : tie.Need-held-word-requires-2 Inv-loop μ-loop
+held-word-requires-2 c κs = search needs
 
 sub-left : tie.Need-sub-left Inv-loop μ-loop
 sub-left c = search needs
 
 returns-3 : tie.Need-returns-3 Inv-loop μ-loop
-returns-3 c = sym (broken-run (c .before .before .before .before .before .before .before .loop .inv) (c .before .before .before .before .before .before .loop-test .taken) (c .before .clip-word2 .ensures) (c .if3 .taken))
+returns-3 c = sym (broken-run (c .before .before .before .before .before .before .before .loop .inv) (c .before .before .before .before .before .before .loop-test .taken) (c .before .held-word2 .ensures) (c .if3 .taken))
 
 add-first : tie.Need-add-first Inv-loop μ-loop
 add-first c = search needs
@@ -49,7 +49,7 @@ loop-less c = search needs
 loop-again : tie.Need-loop-again Inv-loop μ-loop
 loop-again c =
     let kept = sym (c .before .before .before .before .before .clip-keeps .ensures) ∙ not-false _ (c .before .before .before .before .if1 .left) in
-    passed-clip (c .before .before .before .before .before .before .before .loop .inv) (c .before .before .before .before .before .before .loop-test .taken) kept (c .before .before .before .clip-word .ensures) (c .before .before .if2 .left) (c .before .clip-word2 .ensures) (c .if3 .left)
+    passed-clip (c .before .before .before .before .before .before .before .loop .inv) (c .before .before .before .before .before .before .loop-test .taken) kept (c .before .before .before .held-word .ensures) (c .before .before .if2 .left) (c .before .held-word2 .ensures) (c .if3 .left)
 
 returns-4 : tie.Need-returns-4 Inv-loop μ-loop
 returns-4 c = passed-end (c .before .loop .inv) (c .loop-test .left)
@@ -63,9 +63,9 @@ clips-keep-spec =
     loop-holds
     clip-keeps-requires
     returns
-    clip-word-requires
+    held-word-requires
     returns-2
-    clip-word-requires-2
+    held-word-requires-2
     sub-left
     returns-3
     add-first

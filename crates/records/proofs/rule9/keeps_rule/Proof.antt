@@ -1,5 +1,9 @@
--- `rule9::keeps_rule`: the rule in the order of the tests. Assumes nothing.
+-- `rule9::keeps_rule`: the rule in the order of the tests. The clips that it walks are in the table, since their count fits (`fits-words`). Assumes nothing.
+use mathlib.Core.Path.{sym, _∙_}
 use borrow.Author.Needs.{needs}
+use borrow.Author.Tests.{not-false}
+use Rattle.tables.specs.Layout.{clipWords}
+use Rattle.tables.proofs.Records.{fits-words}
 use Rattle.records.proofs.Runs.{rule-in-order, fails, passes}
 use Rattle.records.proofs.rule9.keeps_rule.Statement.{statement}
 use Rattle.records.proofs.rule9.keeps_rule.Tie as tie
@@ -27,7 +31,9 @@ returns-3 c =
     rw rule-in-order (passes (f .before .clips-fit .ensures) (f .if1 .left) (passes (t .before .tags-fit .ensures) (t .if2 .left) (fails _ (c .before .head-fits .ensures) (c .if3 .taken))))
 
 clips-keep-requires : tie.Need-clips-keep-requires
-clips-keep-requires c κs = search needs
+clips-keep-requires c κs =
+    let f = c .before .before .before .before in
+    fits-words clipWords _ _ (sym (f .before .clips-fit .ensures) ∙ not-false _ (f .if1 .left))
 
 returns-4 : tie.Need-returns-4
 returns-4 c =

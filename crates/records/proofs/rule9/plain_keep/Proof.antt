@@ -7,11 +7,11 @@ use Rattle.records.proofs.rule9.plain_keep.Tie as tie
 clip-span-fits-requires : tie.Need-clip-span-fits-requires
 clip-span-fits-requires c κs = search needs
 
-clip-word-requires : tie.Need-clip-word-requires
-clip-word-requires c κs = search needs
+held-word-requires : tie.Need-held-word-requires
+held-word-requires c κs = search needs
 
-clip-word-requires-2 : tie.Need-clip-word-requires-2
-clip-word-requires-2 c κs = search needs
+held-word-requires-2 : tie.Need-held-word-requires-2
+held-word-requires-2 c κs = search needs
 
 seconds-bits-requires : tie.Need-seconds-bits-requires
 seconds-bits-requires c κs = search needs
@@ -21,15 +21,15 @@ clip-span-fits-requires-2 c κs = search needs
 
 returns : tie.Need-returns
 unfolding plainKeep
-returns c = rw (← c .before .before .before .clip-word .ensures, ← c .before .before .clip-word2 .ensures, ← c .before .seconds-bits .ensures, ← c .before .before .before .before .clip-span-fits .ensures, ← c .clip-span-fits2 .ensures)
+returns c = rw (← c .before .before .before .held-word .ensures, ← c .before .before .held-word2 .ensures, ← c .before .seconds-bits .ensures, ← c .before .before .before .before .clip-span-fits .ensures, ← c .clip-span-fits2 .ensures)
 
 pub plain-keep-spec : {M : Type 1} → statement M
 plain-keep-spec =
     tie.close
     (tie.spec
     clip-span-fits-requires
-    clip-word-requires
-    clip-word-requires-2
+    held-word-requires
+    held-word-requires-2
     seconds-bits-requires
     clip-span-fits-requires-2
     returns)

@@ -3,18 +3,18 @@ use borrow.Author.Needs.{needs}
 use Rattle.records.proofs.rule9.zero_without.Statement.{statement}
 use Rattle.records.proofs.rule9.zero_without.Tie as tie
 
-clip-word-requires : tie.Need-clip-word-requires
-clip-word-requires c κs = search needs
+held-word-requires : tie.Need-held-word-requires
+held-word-requires c κs = search needs
 
-clip-word-requires-2 : tie.Need-clip-word-requires-2
-clip-word-requires-2 c κs = search needs
+held-word-requires-2 : tie.Need-held-word-requires-2
+held-word-requires-2 c κs = search needs
 
 has-flag-requires : tie.Need-has-flag-requires
 has-flag-requires c κs = search needs
 
 returns : tie.Need-returns
-returns c = rw (← c .before .before .clip-word .ensures, ← c .before .clip-word2 .ensures, ← c .has-flag .ensures)
+returns c = rw (← c .before .before .held-word .ensures, ← c .before .held-word2 .ensures, ← c .has-flag .ensures)
 
 pub zero-without-spec : {M : Type 1} → statement M
 zero-without-spec =
-    tie.close (tie.spec clip-word-requires clip-word-requires-2 has-flag-requires returns)
+    tie.close (tie.spec held-word-requires held-word-requires-2 has-flag-requires returns)

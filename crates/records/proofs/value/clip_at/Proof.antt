@@ -11,14 +11,14 @@ clip-span-requires c κs = search needs
 title-at-requires : tie.Need-title-at-requires
 title-at-requires c κs = search needs
 
-clip-word-requires : tie.Need-clip-word-requires
-clip-word-requires c κs = search needs
+held-word-requires : tie.Need-held-word-requires
+held-word-requires c κs = search needs
 
-clip-word-requires-2 : tie.Need-clip-word-requires-2
-clip-word-requires-2 c κs = search needs
+held-word-requires-2 : tie.Need-held-word-requires-2
+held-word-requires-2 c κs = search needs
 
-clip-word-requires-3 : tie.Need-clip-word-requires-3
-clip-word-requires-3 c κs = search needs
+held-word-requires-3 : tie.Need-held-word-requires-3
+held-word-requires-3 c κs = search needs
 
 range-at-requires : tie.Need-range-at-requires
 range-at-requires c κs = search needs
@@ -26,27 +26,27 @@ range-at-requires c κs = search needs
 map-at-requires : tie.Need-map-at-requires
 map-at-requires c κs = search needs
 
-clip-word-requires-4 : tie.Need-clip-word-requires-4
-clip-word-requires-4 c κs = search needs
+held-word-requires-4 : tie.Need-held-word-requires-4
+held-word-requires-4 c κs = search needs
 
 has-flag-requires : tie.Need-has-flag-requires
 has-flag-requires c κs = search needs
 
-clip-word-requires-5 : tie.Need-clip-word-requires-5
-clip-word-requires-5 c κs = search needs
+held-word-requires-5 : tie.Need-held-word-requires-5
+held-word-requires-5 c κs = search needs
 
-clip-word-requires-6 : tie.Need-clip-word-requires-6
-clip-word-requires-6 c κs = search needs
+held-word-requires-6 : tie.Need-held-word-requires-6
+held-word-requires-6 c κs = search needs
 
 returns : tie.Need-returns
 unfolding clipAt
 returns c =
-    rw (← c .before .before .before .before .before .before .before .before .clip-word .ensures, ← c .before .before .before .before .before .before .before .clip-word2 .ensures, ← c .before .before .before .before .before .before .clip-word3 .ensures)
+    rw (← c .before .before .before .before .before .before .before .before .held-word .ensures, ← c .before .before .before .before .before .before .before .held-word2 .ensures, ← c .before .before .before .before .before .before .held-word3 .ensures)
     (λ i.
     clip (c .before .before .before .before .before .before .before .before .before .before .clip-span .ensures i)
-    (segment (c .before .before .before .clip-word4 .ensures i) (c .before .before .before .before .before .before .before .before .before .title-at .ensures i) (c .before .before .before .before .before .range-at .ensures i) (c .before .before .has-flag .ensures i) (c .before .before .before .before .map-at .ensures i))
-    (c .before .clip-word5 .ensures i)
-    (c .clip-word6 .ensures i))
+    (segment (c .before .before .before .held-word4 .ensures i) (c .before .before .before .before .before .before .before .before .before .title-at .ensures i) (c .before .before .before .before .before .range-at .ensures i) (c .before .before .has-flag .ensures i) (c .before .before .before .before .map-at .ensures i))
+    (c .before .held-word5 .ensures i)
+    (c .held-word6 .ensures i))
 
 pub clip-at-spec : {M : Type 1} → statement M
 clip-at-spec =
@@ -54,13 +54,13 @@ clip-at-spec =
     (tie.spec
     clip-span-requires
     title-at-requires
-    clip-word-requires
-    clip-word-requires-2
-    clip-word-requires-3
+    held-word-requires
+    held-word-requires-2
+    held-word-requires-3
     range-at-requires
     map-at-requires
-    clip-word-requires-4
+    held-word-requires-4
     has-flag-requires
-    clip-word-requires-5
-    clip-word-requires-6
+    held-word-requires-5
+    held-word-requires-6
     returns)

@@ -34,14 +34,11 @@ break-or-dates-tag-requires c κs = search needs
 returns-3 : tie.Need-returns-3
 returns-3 c = untold (c .break-or-dates-tag .result) (c .break-or-dates-tag .ensures) (sym (or-assoc (discontinuityTag _ _) (dateRangeTag _ _) _) ∙ chosen (c .before .before .before .before) 68 (c .before .if3 .taken))
 
-slice-aggregate-marked : tie.Need-slice-aggregate-marked
-slice-aggregate-marked c = search needs
-
-marked-requires : tie.Need-marked-requires
-marked-requires c κs = search needs
+key-tag-requires : tie.Need-key-tag-requires
+key-tag-requires c κs = search needs
 
 returns-4 : tie.Need-returns-4
-returns-4 c = untold (c .marked .result) (c .marked .ensures) (chosen (c .before .before .before .before .before .before) 75 (c .before .before .if4 .taken))
+returns-4 c = untold (c .key-tag .result) (c .key-tag .ensures) (chosen (c .before .before .before .before .before) 75 (c .before .if4 .taken))
 
 map-tag-requires : tie.Need-map-tag-requires
 map-tag-requires c κs = search needs
@@ -49,14 +46,11 @@ map-tag-requires c κs = search needs
 returns-5 : tie.Need-returns-5
 returns-5 c = untold (c .map-tag .result) (c .map-tag .ensures) (chosen (c .before .before .before .before .before .before) 77 (c .before .if5 .taken))
 
-slice-aggregate-marked-2 : tie.Need-slice-aggregate-marked-2
-slice-aggregate-marked-2 c = search needs
-
-marked-requires-2 : tie.Need-marked-requires-2
-marked-requires-2 c κs = search needs
+program-date-time-tag-requires : tie.Need-program-date-time-tag-requires
+program-date-time-tag-requires c κs = search needs
 
 returns-6 : tie.Need-returns-6
-returns-6 c = untold (c .marked2 .result) (c .marked2 .ensures) (chosen (c .before .before .before .before .before .before .before .before) 80 (c .before .before .if6 .taken))
+returns-6 c = untold (c .program-date-time-tag .result) (c .program-date-time-tag .ensures) (chosen (c .before .before .before .before .before .before .before) 80 (c .before .if6 .taken))
 
 returns-7 : tie.Need-returns-7
 returns-7 c =
@@ -81,12 +75,10 @@ lettered-tag-spec =
     returns-2
     break-or-dates-tag-requires
     returns-3
-    slice-aggregate-marked
-    marked-requires
+    key-tag-requires
     returns-4
     map-tag-requires
     returns-5
-    slice-aggregate-marked-2
-    marked-requires-2
+    program-date-time-tag-requires
     returns-6
     returns-7)

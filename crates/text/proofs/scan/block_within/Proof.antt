@@ -33,7 +33,7 @@ loop-again c e =
     let a = c .before .before .before .args in
     let l = c .before .before .loop in
     let z : a .at + (l .k + 1) ≡ a .at + l .k + 1 = omega arith in
-    rw z (within-on (a .text .now) (a .lo) (a .hi) (a .at) (a .at + l .k) (l .within) (l .inv) e)
+    rw z (within-on (a .text .now) (a .at) (a .at + l .k) (l .within) (a .lo) (a .hi) (l .inv) e)
 
 returns : tie.Need-returns Inv-loop μ-loop
 returns c e j h l = c .before .loop .inv e j h (omega arith)

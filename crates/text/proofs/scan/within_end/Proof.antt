@@ -8,19 +8,19 @@ use Rattle.text.proofs.scan.within_end.Statement.{statement}
 use Rattle.text.proofs.scan.within_end.Tie as tie
 
 abbrev Inv-loop : tie.InvT-loop
-Inv-loop text at size lo hi i₀ i = (at ≤ i) × All (There lo hi text) at i
+Inv-loop text at size lo hi last i₀ i = (at ≤ i) × All (There lo hi text) at i
 
 abbrev μ-loop : tie.MeasureT-loop
-μ-loop text at size lo hi i₀ i = length text - i
+μ-loop text at size lo hi last i₀ i = length text - i
+
+returns : tie.Need-returns Inv-loop μ-loop
+returns c = (le-refl _, λ j h l. absurd (omega arith))
+
+sub-last : tie.Need-sub-last Inv-loop μ-loop
+sub-last c = omega arith
 
 loop-holds : tie.Need-loop-holds Inv-loop μ-loop
 loop-holds c = (le-refl _, λ j h l. absurd (omega arith))
-
-sub-if1 : tie.Need-sub-if1 Inv-loop μ-loop
-sub-if1 c = omega arith
-
-returns : tie.Need-returns Inv-loop μ-loop
-returns c = c .before .before .loop .inv
 
 block-within-requires : tie.Need-block-within-requires Inv-loop μ-loop
 block-within-requires c κs = omega arith
@@ -33,13 +33,13 @@ loop-less c = omega arith
 
 loop-again : tie.Need-loop-again Inv-loop μ-loop
 loop-again c =
-    let t = c .before .before .before .before in
-    let a = t .before .before .args in
+    let t = c .before .before .before in
+    let a = t .before .before .before .args in
     let pass = c .before .block-within .ensures (c .if2 .taken) in
     (omega (arith, t .loop .inv .0), join (There (a .lo) (a .hi) (a .text .now)) _ _ _ (t .loop .inv .1) (λ j h l. (omega arith, pass j h l)))
 
 returns-2 : tie.Need-returns-2 Inv-loop μ-loop
-returns-2 c = c .before .before .before .before .loop .inv
+returns-2 c = c .before .before .before .loop .inv
 
 returns-3 : tie.Need-returns-3 Inv-loop μ-loop
 returns-3 c = c .before .loop .inv
@@ -50,9 +50,9 @@ within-end-spec =
     (tie.spec
     Inv-loop
     μ-loop
-    loop-holds
-    sub-if1
     returns
+    sub-last
+    loop-holds
     block-within-requires
     add-i
     loop-less

@@ -1,6 +1,7 @@
 -- `util::number`: what the loop knows is `Counted`, with one law for each way out. Assumes nothing.
-use Prim.Native.Nat.{_-_}
+use Prim.Native.Nat.{_+_, _*_, _-_, _^_, _<_}
 use mathlib.Core.Path.{refl, sym, _∙_}
+use mathlib.Core.Logic.{⊎-elim}
 use borrow.Author.Needs.{needs}
 use native.Mathlib.Omega.{arith}
 use lib.ListN.{length}
@@ -26,22 +27,26 @@ is-digit-requires c κs = search needs
 digit-value-requires : tie.Need-digit-value-requires Inv-loop μ-loop
 digit-value-requires c κs = sym (c .before .is-digit .ensures) ∙ c .if1 .taken
 
-sub-if2 : tie.Need-sub-if2 Inv-loop μ-loop
-sub-if2 c = omega arith
+sub-if3 : tie.Need-sub-if3 Inv-loop μ-loop
+sub-if3 c = omega arith
 
 digits-end-requires : tie.Need-digits-end-requires Inv-loop μ-loop
 digits-end-requires c κs = search needs
 
 returns : tie.Need-returns Inv-loop μ-loop
-returns c = let t = c .before .before .before .before .before .before in
+returns c = let t = c .before .before .before .before .before .before .before in
     rw (c .digits-end .ensures)
-    (counted-large _ _ _ _ (t .before .loop .inv) (t .loop-test .taken) (sym (c .before .before .before .before .is-digit .ensures) ∙ c .before .before .before .if1 .taken) (omega arith))
+    (counted-large _ _ _ _ (t .before .loop .inv) (t .loop-test .taken) (sym (c .before .before .before .before .before .is-digit .ensures) ∙ c .before .before .before .before .if1 .taken) (omega arith))
+
+-- the value so far is small enough for any digit, or it was tested with this one
+fits : (c : tie.Joined2 Inv-loop μ-loop) → c .before .before .before .before .before .before .loop .v * 10 + c .before .digit-value .result < 2 ^ 64
+fits c = ⊎-elim (λ w. omega (arith, w .1 .left)) (λ w. omega (arith, w .left)) (c .if2 .came)
 
 mul-v : tie.Need-mul-v Inv-loop μ-loop
-mul-v c = omega arith
+mul-v c = omega (arith, fits c)
 
 add-v : tie.Need-add-v Inv-loop μ-loop
-add-v c = omega arith
+add-v c = omega (arith, fits c)
 
 add-i : tie.Need-add-i Inv-loop μ-loop
 add-i c = omega arith
@@ -52,7 +57,7 @@ loop-less c = omega arith
 loop-again : tie.Need-loop-again Inv-loop μ-loop
 loop-again c = let t = c .before .before .before .before .before in
     rw (c .before .digit-value .ensures .0)
-    (counted-step _ _ _ _ (t .before .loop .inv) (t .loop-test .taken) (sym (c .before .before .before .is-digit .ensures) ∙ c .before .before .if1 .taken) (omega arith))
+    (counted-step _ _ _ _ (t .before .loop .inv) (t .loop-test .taken) (sym (c .before .before .before .is-digit .ensures) ∙ c .before .before .if1 .taken) (omega (arith, fits c)))
 
 parsed-to-requires : tie.Need-parsed-to-requires Inv-loop μ-loop
 parsed-to-requires c κs = search needs
@@ -78,7 +83,7 @@ number-spec =
     shared-slice-read-b
     is-digit-requires
     digit-value-requires
-    sub-if2
+    sub-if3
     digits-end-requires
     returns
     mul-v
