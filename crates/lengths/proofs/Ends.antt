@@ -4,13 +4,15 @@ use mathlib.Core.Path.{_≡_, refl, sym, _∙_, ap}
 use mathlib.Core.Bool.{Bool, true, false, not, cond, _&&_, _||_}
 use mathlib.Core.List.{List}
 use mathlib.Core.Option.{Option, none, some}
+use native.Mathlib.Nat.{add-comm}
 use native.Mathlib.Omega.{arith}
 use lib.Dec.{leb, ltb}
 use lib.ListN.{drop}
-use borrow.Author.Tests.{ltb-true, ltb-false, leb-true, leb-false, lt-ltb, le-ltb}
+use borrow.Author.Tests.{leb-true, leb-false, lt-ltb, le-ltb}
 use Rattle.text.specs.Why.{otherText}
 use Rattle.text.specs.Nom.{Res, fail, ok, Span, bytes, isDigit, tagged, runEnd, decimal, orNone, tag, digit1, opt}
 use Rattle.text.proofs.Laws.{or-false}
+use Rattle.text.proofs.Local.{ltb-add}
 use Rattle.text.proofs.Takes.{when-ok, bind-ok}
 use Rattle.lengths.specs.Duration.{Digits, digits, counted, sideDigits, Length, ns, tooManyDigits, lengthOf, float, Extinf, extinf, isLong}
 use Rattle.lengths.specs.Answers.{after, endOf}
@@ -27,11 +29,7 @@ over n k = go (leb n k) refl
 
 -- the point, counted as a digit
 one-more : (n k : ℕ) → ltb (k + 1) (n + 1) ≡ ltb k n
-one-more n k = go (ltb k n) refl
-  where
-    go : (b : Bool) → ltb k n ≡ b → ltb (k + 1) (n + 1) ≡ b
-    go true e = lt-ltb (k + 1) (n + 1) (omega (arith, ltb-true k n e))
-    go false e = le-ltb (k + 1) (n + 1) (omega (arith, ltb-false k n e))
+one-more n k = rw (add-comm k 1, add-comm n 1) (ltb-add 1 k n)
 
 -- a length that a test allows
 picked-long : (b : Bool) (x : ℕ) (t : Option Span) → not b ≡ isLong (extinf (cond b (ns x) tooManyDigits) t)

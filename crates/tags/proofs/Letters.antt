@@ -1,34 +1,18 @@
 -- Which tags can hold at all, by one byte of theirs: a tag fails where the text has another byte at the same place, so only those with that byte need be
 -- tried. At place 0 all have `#`; at place 7 they differ most. Assumes nothing.
-use Prim.Native.Nat.{ℕ, zero, suc, _+_, _≤_, _<_}
+use Prim.Native.Nat.{ℕ, _+_, _≤_, _<_}
 use mathlib.Core.Path.{_≡_, refl, sym, _∙_, ap}
-use mathlib.Core.Bool.{Bool, true, false, cond, _&&_}
+use mathlib.Core.Bool.{Bool, true, false, cond}
 use mathlib.Core.List.{List, [], _∷_}
 use native.Mathlib.Omega.{arith}
 use lib.Dec.{eqb}
-use lib.ListN.{length, drop, getD}
-use lib.Seq.{getD-drop}
-use borrow.Author.Tests.{ne-eqb, eqb-false}
+use lib.ListN.{length, getD}
+use borrow.Author.Tests.{eqb-false}
 use Rattle.text.specs.Why.{otherText}
-use Rattle.text.specs.Nom.{Res, Parser, fail, ok, bytes, begins, tagged, orElse, when, bind, tag, map, preceded}
-use Rattle.text.proofs.Chain.{alt-skip}
+use Rattle.text.specs.Nom.{Res, Parser, fail, bytes, tagged, orElse, tag, map, preceded}
+pub use Rattle.text.proofs.Laws.{tagged-other}
+use Rattle.text.proofs.Chain.{alt-skip, or-same}
 use Rattle.tags.specs.Tags.{Tag, version, targetDuration, mediaSequence, discontinuitySequence, typed, iFramesOnly, independentSegments, endList, timed, ranged, discontinuity, mapped, ofHead, ofClip, start, key, programDateTime, dateRange, leftOut, marks, firstOf, playlistTags, playlistTag, segmentTags, segmentTag}
-
--- ---- where the text has another byte than t at place k of it, it does not go on with t
-and-false : (b : Bool) → (b && false) ≡ false
-and-false true = refl
-and-false false = refl
-
-begins-other : (t s : List ℕ) (k : ℕ) → k < length t → (getD s k 0 ≡ getD t k 0 → ⊥) → begins t s ≡ false
-unfolding begins
-begins-other [] s k l h = absurd (omega arith)
-begins-other (x ∷ t) [] k l h = refl
-begins-other (x ∷ t) (b ∷ s) zero l h = rw (ne-eqb b x h)
-begins-other (x ∷ t) (b ∷ s) (suc k) l h = rw (begins-other t s k (omega arith) h) (and-false (eqb b x))
-
-pub tagged-other : (t text : List ℕ) (at k : ℕ) → k < length t → (getD text (at + k) 0 ≡ getD t k 0 → ⊥) → tagged t text at ≡ false
-unfolding tagged
-tagged-other t text at k l h = begins-other t (drop at text) k l (rw (getD-drop at text k 0) h)
 
 -- ---- alternatives that begin with these texts, each of more than seven bytes
 abbrev pub Fixed : List ℕ → Parser Tag → Type 0
@@ -50,16 +34,12 @@ module _ (text : List ℕ) (at k : ℕ) where
   tried c (last t x l) = orElse (cond (eqb c (getD t k 0)) (marks x (tag t) text at) (fail otherText)) (fail otherText)
   tried c (each {p} t l f n) = orElse (cond (eqb c (getD t k 0)) (p text at) (fail otherText)) (tried c n)
 
-  or-other : (x : Tag) (n : ℕ) (b : Bool) → let r = bind (when b otherText (ok (tt {0}) n)) (λ _ m. ok x m) in orElse r (fail otherText) ≡ r
-  or-other x n true = refl
-  or-other x n false = refl
-
   -- is the first of all that holds, where c is the text's byte there
   pub by-byte : k ≤ 7 → {ps : List (Parser Tag)} (n : Named ps) → tried (getD text (at + k) 0) n ≡ firstOf ps text at
   by-byte h (last t x l) = go (eqb (getD text (at + k) 0) (getD t k 0)) refl
     where
       go : (b : Bool) → eqb (getD text (at + k) 0) (getD t k 0) ≡ b → orElse (cond b (marks x (tag t) text at) (fail otherText)) (fail otherText) ≡ marks x (tag t) text at
-      go true e = or-other x (at + length t) (tagged t text at)
+      go true e = or-same (tagged t text at) otherText x (at + length t)
       go false e = sym (mark-fixed t x text at (tagged-other t text at k (omega arith) (eqb-false _ _ e)))
   by-byte h (each {p} {q} {ps} t l f n) = go (eqb (getD text (at + k) 0) (getD t k 0)) refl (by-byte h n)
     where

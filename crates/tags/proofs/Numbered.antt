@@ -13,8 +13,8 @@ use Rattle.text.specs.Nom.{Res, fail, ok, Parser, orElse, tag, map, preceded}
 use Rattle.text.specs.Util.{consumeLine}
 use Rattle.text.specs.BasicTags.{extTag, commentTag}
 use Rattle.text.proofs.Takes.{bind-ok}
+use Rattle.text.proofs.Chain.{or-assoc}
 use Rattle.tags.specs.Tags.{version, targetDuration, mediaSequence, discontinuitySequence, typed, iFramesOnly, independentSegments, endList, timed, ranged, discontinuity, mapped, start, key, programDateTime, dateRange, Tag, ofHead, ofClip, unknown, comment, uri, leftOut, marks, firstOf, playlistTags, playlistTag, segmentTags, segmentTag, otherTags, otherTag, mediaSegmentTag, mediaPlaylistTag, knownTags, alternatives, alternativeOf}
-use Rattle.tags.proofs.Tried.{or-assoc}
 use Rattle.tags.proofs.Begins.{head-first}
 use Rattle.tags.proofs.Takes.{takes-media-playlist-tag}
 

@@ -12,10 +12,6 @@ use Rattle.tags.specs.declared.TagRes.the-variants as tagResᵛ
 use Rattle.tags.specs.Tags.{Tag}
 use Rattle.tags.specs.Answers.{tagOf, tagRes}
 
-pub or-assoc : {A : Type 0} (r p q : Res A) → orElse r (orElse p q) ≡ orElse (orElse r p) q
-or-assoc (fail why) p q = refl
-or-assoc (ok a n) p q = refl
-
 pub failed : {r : TagRes} {p q : Res Tag} {why : whyᵈ.Why} → tagRes r ≡ p → r ≡ tagResᵛ.Fail why → q ≡ orElse p q
 failed {r} {p} {q} {why} e h = alt-skip p q q (whyOf why) (sym e ∙ ap tagRes h) refl
 

@@ -1,9 +1,9 @@
 // parser.rs, `media_playlist_tag`: the tags of a playlist's head.
 use crate::HeadTag;
+use crate::LETTER_PLACE;
 use crate::LeftOut;
 use crate::Tag;
 use crate::TagRes;
-use crate::letter_at;
 use crate::marked;
 use text::Why;
 use text::basic_tags;
@@ -137,7 +137,7 @@ fn end_list_tag(text: &[u8], at: usize) -> TagRes
 fn lettered_tag(text: &[u8], at: usize) -> TagRes
     ensures { λ r. ⌜ nom.orElse (tagRes r) (nom.fail otherText) ≡ rule.playlistTag (now (text .entry)) at ⌝ }
 {
-    let letter = letter_at(text, at);
+    let letter = scan::byte_at(text, at, LETTER_PLACE);
     if letter == b'V' {
         return version_tag(text, at);
     }

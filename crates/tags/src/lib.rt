@@ -11,8 +11,6 @@ use text::basic_tags::PlaylistType;
 use text::scan;
 use text::util::ByteRange;
 ghost use mathlib.Core.Path.{_≡_};
-ghost use Prim.Native.Nat.{_+_};
-ghost use lib.ListN.{getD};
 ghost use Rattle.text.specs.Nom as nom;
 ghost use Rattle.tags.specs.Tags as rule;
 ghost use Rattle.tags.specs.Answers.{tagOf, tagRes};
@@ -76,20 +74,7 @@ pub fn marked(text: &[u8], at: usize, fixed: &[u8], t: Tag) -> TagRes
 }
 
 // Known tags differ in their byte at this place: it stands behind `#EXT-X-`, and in `#EXTINF:` it is the colon.
-const LETTER_PLACE: usize = 7;
-
-// That byte, by which the tags to try are chosen; 0, which no tag has there, where the text is shorter.
-pub(crate) fn letter_at(text: &[u8], at: usize) -> u8
-    ensures { λ r. ⌜ r ≡ getD (now (text .entry)) (at + 7) 0 ⌝ }
-{
-    if text.len() <= LETTER_PLACE {
-        return 0;
-    }
-    if text.len() - LETTER_PLACE <= at {
-        return 0;
-    }
-    text[at + LETTER_PLACE]
-}
+pub(crate) const LETTER_PLACE: usize = 7;
 
 pub fn media_segment_tag(text: &[u8], at: usize) -> TagRes
     ensures { λ r. ⌜ tagRes r ≡ rule.mediaSegmentTag (now (text .entry)) at ⌝ }

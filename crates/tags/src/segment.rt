@@ -1,9 +1,9 @@
 // parser.rs, `media_segment_tag`: the tags of a clip.
 use crate::ClipTag;
+use crate::LETTER_PLACE;
 use crate::LeftOut;
 use crate::Tag;
 use crate::TagRes;
-use crate::letter_at;
 use crate::marked;
 use attributes::ext_map;
 use attributes::ext_map::MapRes;
@@ -103,7 +103,7 @@ fn program_date_time_tag(text: &[u8], at: usize) -> TagRes
 fn lettered_tag(text: &[u8], at: usize) -> TagRes
     ensures { λ r. ⌜ nom.orElse (tagRes r) (nom.fail otherText) ≡ rule.segmentTag (now (text .entry)) at ⌝ }
 {
-    let letter = letter_at(text, at);
+    let letter = scan::byte_at(text, at, LETTER_PLACE);
     if letter == b':' {
         return extinf_line(text, at);
     }

@@ -1,8 +1,8 @@
 -- Laws of the three questions, for any test and any text. A caller cites these, and never unfolds. Assumes nothing.
 use mathlib.Core.Path.{_≡_, refl, sym, _∙_, ap}
-use mathlib.Core.Bool.{Bool, true, false, cond, _&&_, _||_, false≢true, and-true, and-assoc}
+use mathlib.Core.Bool.{Bool, true, false, cond, _&&_, _||_, false≢true, and-true, and-false, and-assoc}
 use mathlib.Core.List.{List, [], _∷_, _++_}
-use Prim.Native.Nat.{ℕ, suc, _+_, _*_, _-_, _^_, _≤_, _<_, zero-le, suc-le-suc}
+use Prim.Native.Nat.{ℕ, zero, suc, _+_, _*_, _-_, _^_, _≤_, _<_, zero-le, suc-le-suc}
 use native.Mathlib.Nat.{add-zero, add-suc, suc-add, le-refl, mul-assoc, pow-succ'}
 use native.Mathlib.Numerals.{add-one}
 use native.Mathlib.Omega.{arith}
@@ -192,15 +192,21 @@ pub tagged-first : (x y : ℕ) (t u text : List ℕ) (at : ℕ) → (x ≡ y →
 unfolding tagged
 tagged-first x y t u text at h e = begins-first x y t u (drop at text) h e
 
--- where another byte stands, or none, it does not go on with a tag that begins so
-begins-not : (x : ℕ) (t s : List ℕ) → (getD s 0 0 ≡ x → ⊥) → begins (x ∷ t) s ≡ false
+-- where another byte than t has at place k stands, or none, it does not go on with t
+begins-other : (t s : List ℕ) (k : ℕ) → k < length t → (getD s k 0 ≡ getD t k 0 → ⊥) → begins t s ≡ false
 unfolding begins
-begins-not x t [] h = refl
-begins-not x t (b ∷ s) h = rw (ne-eqb b x h)
+begins-other [] s k l h = absurd (omega arith)
+begins-other (x ∷ t) [] k l h = refl
+begins-other (x ∷ t) (b ∷ s) zero l h = rw (ne-eqb b x h)
+begins-other (x ∷ t) (b ∷ s) (suc k) l h = rw (begins-other t s k (omega arith) h) (and-false (eqb b x))
 
-pub tagged-not : (x : ℕ) (t text : List ℕ) (at : ℕ) → (getD text at 0 ≡ x → ⊥) → tagged (x ∷ t) text at ≡ false
+pub tagged-other : (t text : List ℕ) (at k : ℕ) → k < length t → (getD text (at + k) 0 ≡ getD t k 0 → ⊥) → tagged t text at ≡ false
 unfolding tagged
-tagged-not x t text at h = begins-not x t (drop at text) (rw (getD-drop at text 0 0, add-zero at) h)
+tagged-other t text at k l h = begins-other t (drop at text) k l (rw (getD-drop at text k 0) h)
+
+-- at its first place
+pub tagged-not : (x : ℕ) (t text : List ℕ) (at : ℕ) → (getD text at 0 ≡ x → ⊥) → tagged (x ∷ t) text at ≡ false
+tagged-not x t text at h = tagged-other (x ∷ t) text at 0 (omega arith) (rw (add-zero at) h)
 
 -- where it does not go on with a tag, it does not go on with a longer one
 begins-longer : (t u s : List ℕ) → begins t s ≡ false → begins (t ++ u) s ≡ false

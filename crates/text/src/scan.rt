@@ -30,6 +30,19 @@ pub fn is_one_of(set: &[u8], b: u8) -> bool
     false
 }
 
+// The byte so many places after `at`; 0 where the text is shorter.
+pub fn byte_at(text: &[u8], at: usize, place: usize) -> u8
+    ensures { λ r. ⌜ r ≡ getD (now (text .entry)) (at + place) 0 ⌝ }
+{
+    if text.len() <= place {
+        return 0;
+    }
+    if text.len() - place <= at {
+        return 0;
+    }
+    text[at + place]
+}
+
 // Whether the bytes from `at` on are those of `tag`. All of them are looked at, with no way out before the last, so that the compiler
 // takes many at once.
 fn same_bytes(text: &[u8], at: usize, tag: &[u8]) -> bool

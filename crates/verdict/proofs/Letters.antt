@@ -1,44 +1,20 @@
 -- Which names can be there at all, by one byte of theirs: a name is not there where the text has another byte at the same place. Of the eighteen `#EXTINF`
 -- alone has `I` at place 4, and at place 7 the others differ most. Assumes nothing.
-use Prim.Native.Nat.{ℕ, zero, suc, _+_, _≤_, _<_}
+use Prim.Native.Nat.{ℕ, _+_, _≤_, _<_}
 use mathlib.Core.Path.{_≡_, refl, sym, _∙_, ap}
-use mathlib.Core.Bool.{Bool, true, false, cond, _&&_, false≢true}
-use mathlib.Core.List.{List, [], _∷_}
+use mathlib.Core.Bool.{Bool, true, false, cond, false≢true}
+use mathlib.Core.List.{List}
 use native.Mathlib.Nat.{add-zero}
 use native.Mathlib.Omega.{arith}
 use lib.Dec.{eqb}
-use lib.ListN.{length, drop, getD}
-use lib.Seq.{getD-drop}
+use lib.ListN.{length, getD}
 use borrow.Author.Tests.{ne-eqb, eqb-false}
 use Rattle.text.specs.Why.{otherText}
-use Rattle.text.specs.Nom.{Res, Parser, fail, ok, bytes, begins, tagged, orElse, tag, alt}
+use Rattle.text.specs.Nom.{Res, Parser, fail, bytes, tagged, orElse, tag, alt}
+use Rattle.text.proofs.Laws.{tagged-other}
+use Rattle.text.proofs.Chain.{or-assoc, or-same}
 use Rattle.verdict.specs.Verdict.{kind, masterTag, playlistTag, segmentTag, mediaTag}
-use Rattle.verdict.proofs.Tags.{told, group, group-no-tag}
-
--- ---- where the text has another byte than t at place k of it, it does not go on with t
-and-false : (b : Bool) → (b && false) ≡ false
-and-false true = refl
-and-false false = refl
-
-begins-other : (t s : List ℕ) (k : ℕ) → k < length t → (getD s k 0 ≡ getD t k 0 → ⊥) → begins t s ≡ false
-unfolding begins
-begins-other [] s k l h = absurd (omega arith)
-begins-other (x ∷ t) [] k l h = refl
-begins-other (x ∷ t) (b ∷ s) zero l h = rw (ne-eqb b x h)
-begins-other (x ∷ t) (b ∷ s) (suc k) l h = rw (begins-other t s k (omega arith) h) (and-false (eqb b x))
-
-pub tagged-other : (t text : List ℕ) (at k : ℕ) → k < length t → (getD text (at + k) 0 ≡ getD t k 0 → ⊥) → tagged t text at ≡ false
-unfolding tagged
-tagged-other t text at k l h = begins-other t (drop at text) k l (rw (getD-drop at text k 0) h)
-
--- ---- alternatives in turn
-or-assoc : {A : Type 0} (r p q : Res A) → orElse r (orElse p q) ≡ orElse (orElse r p) q
-or-assoc (fail why) p q = refl
-or-assoc (ok a n) p q = refl
-
-or-other : (k : Bool) (n : ℕ) (b : Bool) → orElse (told k b n) (fail otherText) ≡ told k b n
-or-other k n true = refl
-or-other k n false = refl
+use Rattle.verdict.proofs.Tags.{group, group-no-tag}
 
 -- a chain of names, each with a test that leaves it out
 module _ (text : List ℕ) (at : ℕ) where
@@ -63,7 +39,7 @@ module _ (text : List ℕ) (at : ℕ) where
   by-tests (each {q} b p f n) z = ap (λ (x : Res Bool). orElse x (tried n z)) (kept b p f) ∙ ap (orElse p) (by-tests n z) ∙ or-assoc p q z
 
   pub one : (k : Bool) (t : List ℕ) → kind k (tag t) text at ≡ orElse (kind k (tag t) text at) (fail otherText)
-  one k t = sym (or-other k (at + length t) (tagged t text at))
+  one k t = sym (or-same (tagged t text at) otherText k (at + length t))
 
   pub after : (p : Parser Bool) {q r : Res Bool} → q ≡ r → orElse (p text at) q ≡ orElse (p text at) r
   after p e = ap (orElse (p text at)) e

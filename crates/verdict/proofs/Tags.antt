@@ -1,11 +1,11 @@
--- The names of a kind as lists, what the test for one says, and `#EXT-X-MEDIA` with its run. Assumes nothing.
+-- The names of a kind as lists, and `#EXT-X-MEDIA` with its run. Assumes nothing.
 use Prim.Native.Nat.{ℕ, _+_, _≤_, _<_}
 use mathlib.Core.Path.{_≡_}
 use mathlib.Core.Bool.{Bool, true, false}
 use mathlib.Core.List.{List, [], _∷_, _++_}
 use borrow.Author.Tests.{lt-ltb, le-ltb}
 use Rattle.text.specs.Why.{otherText, missingByte}
-use Rattle.text.specs.Nom.{Res, fail, ok, Parser, bytes, tag, tagged, isNoneOf, runEnd, isNot, preceded, map, when, orElse, bind}
+use Rattle.text.specs.Nom.{fail, ok, Parser, bytes, tag, tagged, isNoneOf, runEnd, isNot, preceded, map, orElse}
 use Rattle.verdict.specs.Verdict.{kind}
 
 -- `#` and the first of these names that is there
@@ -38,10 +38,6 @@ segmentNames =
     ∷ bytes "EXT-X-PROGRAM-DATE-TIME"
     ∷ bytes "EXT-X-DATERANGE"
     ∷ []
-
--- ---- one of them, by what the test for it says
-abbrev pub told : Bool → Bool → ℕ → Res Bool
-told k b n = bind (when b otherText (ok (tt {0}) n)) (λ _ m. ok k m)
 
 -- ---- `#EXT-X-MEDIA` and its run up to the next `-`
 abbrev pub group : Parser Bool

@@ -20,19 +20,6 @@ pub enum KindRes {
     Ok(bool, usize),
 }
 
-// The byte so many places after `at`; 0 where the text is shorter.
-fn byte_at(text: &[u8], at: usize, place: usize) -> u8
-    ensures { λ r. ⌜ r ≡ getD (now (text .entry)) (at + place) 0 ⌝ }
-{
-    if text.len() <= place {
-        return 0;
-    }
-    if text.len() - place <= at {
-        return 0;
-    }
-    text[at + place]
-}
-
 fn named(text: &[u8], at: usize, name: &[u8], kind: bool) -> KindRes
     ensures { λ r. ⌜ kindRes r ≡ rule.kind kind (nom.tag (now (name .entry))) (now (text .entry)) at ⌝ }
 {
@@ -148,7 +135,7 @@ fn lettered_tag(text: &[u8], at: usize) -> KindRes
     requires { ⌜ (getD (now text) (at + 4) 0 ≡ 73 → ⊥) ⌝ }
     ensures { λ r. ⌜ kindRes r ≡ alt rule.masterTag rule.mediaTag (now (text .entry)) at ⌝ }
 {
-    let letter = byte_at(text, at, 7);
+    let letter = scan::byte_at(text, at, 7);
     if letter == b'S' {
         return stream_or_session_tag(text, at);
     }
@@ -188,7 +175,7 @@ fn tag_kind(text: &[u8], at: usize) -> KindRes
             return KindRes::Fail(Why::OtherText);
         }
     }
-    if byte_at(text, at, 4) == b'I' {
+    if scan::byte_at(text, at, 4) == b'I' {
         return named(text, at, b"#EXTINF", false);
     }
     lettered_tag(text, at)

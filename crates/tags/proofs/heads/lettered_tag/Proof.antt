@@ -3,18 +3,19 @@ use Prim.Native.Nat.{ℕ}
 use mathlib.Core.Path.{_≡_, refl, sym, _∙_}
 use borrow.Author.Tests.{ne-eqb}
 use borrow.Author.Needs.{needs}
+use Rattle.text.proofs.Chain.{or-assoc}
 use Rattle.tags.specs.Tags.{playlistTag, iFramesOnlyTag, independentSegmentsTag}
-use Rattle.tags.proofs.Tried.{or-assoc, untold}
+use Rattle.tags.proofs.Tried.{untold}
 use Rattle.tags.proofs.Letters.{tried, playlist-named, playlist-lettered}
 use Rattle.tags.proofs.heads.lettered_tag.Statement.{statement}
 use Rattle.tags.proofs.heads.lettered_tag.Tie as tie
 
 -- the tags of letter x have the answer
-chosen : (c : tie.After-letter-at) (x : ℕ) → c .letter-at .result ≡ x → let a = c .before .before .args in tried (a .text .now) (a .at) 7 x playlist-named ≡ playlistTag (a .text .now) (a .at)
-chosen c x is = playlist-lettered _ _ x (c .letter-at .ensures) is
+chosen : (c : tie.After-byte-at) (x : ℕ) → c .byte-at .result ≡ x → let a = c .before .before .args in tried (a .text .now) (a .at) 7 x playlist-named ≡ playlistTag (a .text .now) (a .at)
+chosen c x is = playlist-lettered _ _ x (c .byte-at .ensures) is
 
-letter-at-requires : tie.Need-letter-at-requires
-letter-at-requires c κs = search needs
+byte-at-requires : tie.Need-byte-at-requires
+byte-at-requires c κs = search needs
 
 version-tag-requires : tie.Need-version-tag-requires
 version-tag-requires c κs = search needs
@@ -76,13 +77,13 @@ returns-9 c =
       ne-eqb _ 83 (c .before .if7 .left),
       ne-eqb _ 69 (c .if8 .left),
     )
-    at (chosen (c .before .before .before .before .before .before .before .before) (c .before .before .before .before .before .before .before .before .letter-at .result) refl)
+    at (chosen (c .before .before .before .before .before .before .before .before) (c .before .before .before .before .before .before .before .before .byte-at .result) refl)
 
 pub lettered-tag-spec : {M : Type 1} → statement M
 lettered-tag-spec =
     tie.close
     (tie.spec
-    letter-at-requires
+    byte-at-requires
     version-tag-requires
     returns
     target-duration-tag-requires

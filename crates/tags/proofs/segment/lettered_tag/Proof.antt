@@ -3,18 +3,19 @@ use Prim.Native.Nat.{ℕ}
 use mathlib.Core.Path.{_≡_, refl, sym, _∙_}
 use borrow.Author.Tests.{ne-eqb}
 use borrow.Author.Needs.{needs}
+use Rattle.text.proofs.Chain.{or-assoc}
 use Rattle.tags.specs.Tags.{segmentTag, discontinuityTag, dateRangeTag}
-use Rattle.tags.proofs.Tried.{or-assoc, untold}
+use Rattle.tags.proofs.Tried.{untold}
 use Rattle.tags.proofs.Letters.{tried, segment-named, segment-lettered}
 use Rattle.tags.proofs.segment.lettered_tag.Statement.{statement}
 use Rattle.tags.proofs.segment.lettered_tag.Tie as tie
 
 -- the tags of letter x have the answer
-chosen : (c : tie.After-letter-at) (x : ℕ) → c .letter-at .result ≡ x → let a = c .before .before .args in tried (a .text .now) (a .at) 7 x segment-named ≡ segmentTag (a .text .now) (a .at)
-chosen c x is = segment-lettered _ _ x (c .letter-at .ensures) is
+chosen : (c : tie.After-byte-at) (x : ℕ) → c .byte-at .result ≡ x → let a = c .before .before .args in tried (a .text .now) (a .at) 7 x segment-named ≡ segmentTag (a .text .now) (a .at)
+chosen c x is = segment-lettered _ _ x (c .byte-at .ensures) is
 
-letter-at-requires : tie.Need-letter-at-requires
-letter-at-requires c κs = search needs
+byte-at-requires : tie.Need-byte-at-requires
+byte-at-requires c κs = search needs
 
 extinf-line-requires : tie.Need-extinf-line-requires
 extinf-line-requires c κs = search needs
@@ -62,13 +63,13 @@ returns-7 c =
       ne-eqb _ 77 (c .before .if5 .left),
       ne-eqb _ 80 (c .if6 .left),
     )
-    at (chosen (c .before .before .before .before .before .before) (c .before .before .before .before .before .before .letter-at .result) refl)
+    at (chosen (c .before .before .before .before .before .before) (c .before .before .before .before .before .before .byte-at .result) refl)
 
 pub lettered-tag-spec : {M : Type 1} → statement M
 lettered-tag-spec =
     tie.close
     (tie.spec
-    letter-at-requires
+    byte-at-requires
     extinf-line-requires
     returns
     byte-range-tag-requires
