@@ -14,8 +14,8 @@ use Rattle.text.specs.Nom.{Res, fail, ok, Span, bytes, isDigit, tagged, runEnd,
 use Rattle.text.proofs.Laws.{or-false}
 use Rattle.text.proofs.Local.{ltb-add}
 use Rattle.text.proofs.Takes.{when-ok, bind-ok}
-use Rattle.lengths.specs.Duration.{Digits, digits, counted, sideDigits, Length, ns, tooManyDigits, lengthOf, float, Extinf, extinf, isLong}
-use Rattle.lengths.specs.Answers.{after, endOf}
+use Rattle.lengths.specs.Duration.{Digits, digits, counted, sideDigits, Length, ns, tooManyDigits, lengthOf, float, extinf, isLong}
+use Rattle.lengths.specs.Answers.{after}
 use Rattle.lengths.proofs.Sides.{afterPoint, float-whole, float-both}
 use Rattle.lengths.proofs.Takes.{takes-counted}
 
@@ -108,10 +108,3 @@ module _ (text : List ℕ) (at point end : ℕ) (p : runEnd isDigit text at ≡ 
             from = omega (arith, e, g .2);
             long = λ t. rw (z, one-more m sideDigits) (both-long v (point - at) t (g .0) m);
           }
-
--- ---- an EXTINF that was told without its values is there
-pub told : (r : Res Extinf) (long : Bool) (n : ℕ) → endOf r ≡ some (long, n) → (e : Extinf) × (r ≡ ok e n) × (long ≡ isLong e)
-told (fail why) long n q = let z : _≡_ {A = ℕ} 0 1 = cc in absurd (omega arith)
-told (ok e m) long n q =
-    let x : _≡_ {A = Bool × ℕ} (isLong e, m) (long, n) = cc in
-    (e, ap (λ (y : Bool × ℕ). ok e (y .1)) x, sym (ap (λ (y : Bool × ℕ). y .0) x))

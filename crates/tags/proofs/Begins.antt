@@ -1,6 +1,6 @@
 -- Where a line does not begin with `#`, none but the URI can hold; one that begins with `#EXTINF:` is taken as an EXTINF, if it reads. Assumes nothing.
 use Prim.Native.Nat.{ℕ, _+_, _<_}
-use mathlib.Core.Path.{_≡_, refl, sym, _∙_, subst}
+use mathlib.Core.Path.{_≡_, refl, sym, _∙_}
 use mathlib.Core.Bool.{Bool, true, false, false≢true}
 use mathlib.Core.List.{List, []}
 use native.Mathlib.Nat.{add-zero}
@@ -9,16 +9,13 @@ use lib.Dec.{eqb}
 use lib.ListN.{length, getD}
 use borrow.Author.Tests.{lt-ltb, ne-eqb, eqb-true, eqb-false}
 use Rattle.text.specs.Why.{otherText}
-use Rattle.text.specs.Nom.{fail, ok, Span, bytes, tagged, orElse}
-use Rattle.text.specs.Util.{consumeLine}
+use Rattle.text.specs.Nom.{fail, ok, bytes, tagged, orElse}
 use Rattle.text.specs.BasicTags.{extTag, commentTag}
-use Rattle.text.proofs.Laws.{tagged-not, tagged-within}
+use Rattle.text.proofs.Laws.{tagged-not, tagged-other, tagged-within}
 use Rattle.text.proofs.Chain.{alt-skip, alt-here}
 use Rattle.lengths.specs.Duration.{Extinf, durationTitleTag}
-use Rattle.tags.specs.declared.common.Kind.{Kind}
-use Rattle.tags.specs.Tags.{timed, ofClip, uri, extinfLine, unknownTag, commentLine, uriLine, playlistTag, segmentTag, otherTag, mediaSegmentTag, mediaPlaylistTag}
-use Rattle.tags.specs.Answers.{kindSays}
-use Rattle.tags.proofs.Letters.{tagged-other, by-byte, playlist-named, segment-named, playlist-lettered}
+use Rattle.tags.specs.Tags.{timed, ofClip, extinfLine, unknownTag, commentLine, uriLine, playlistTag, segmentTag, otherTag, mediaSegmentTag, mediaPlaylistTag}
+use Rattle.tags.proofs.Letters.{by-byte, playlist-named, segment-named, playlist-lettered}
 
 module _ (text : List ℕ) (at : ℕ) where
   -- a byte is there: the tags of the head are tried first
@@ -55,13 +52,6 @@ module _ (text : List ℕ) (at : ℕ) where
     -- is a URI
     pub not-hash : at < length text → mediaPlaylistTag text at ≡ uriLine text at
     not-hash h = sym (alt-skip _ _ _ otherText (sym playlist-none) segment-uri ∙ head-first h)
-
-  -- ---- lines by their kind
-  pub kind-is : {k l : Kind} → kindSays k text at → k ≡ l → kindSays l text at
-  kind-is h e = subst (λ (k : Kind). kindSays k text at) e h
-
-  pub uri-read : (u : Span) (n : ℕ) → consumeLine text at ≡ ok u n → uriLine text at ≡ ok (uri u) n
-  uri-read u n e = rw e
 
   -- a line that begins with `#EXTINF:`
   module _ (there : tagged (bytes "#EXTINF:") text at ≡ true) where

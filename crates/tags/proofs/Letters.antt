@@ -10,7 +10,7 @@ use lib.ListN.{length, getD}
 use borrow.Author.Tests.{eqb-false}
 use Rattle.text.specs.Why.{otherText}
 use Rattle.text.specs.Nom.{Res, Parser, fail, bytes, tagged, orElse, tag, map, preceded}
-pub use Rattle.text.proofs.Laws.{tagged-other}
+use Rattle.text.proofs.Laws.{tagged-other}
 use Rattle.text.proofs.Chain.{alt-skip, or-same}
 use Rattle.tags.specs.Tags.{Tag, version, targetDuration, mediaSequence, discontinuitySequence, typed, iFramesOnly, independentSegments, endList, timed, ranged, discontinuity, mapped, ofHead, ofClip, start, key, programDateTime, dateRange, leftOut, marks, firstOf, playlistTags, playlistTag, segmentTags, segmentTag}
 

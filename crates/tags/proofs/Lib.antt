@@ -8,6 +8,8 @@ pub mod Begins
 pub mod Takes
 -- which alternative took a tag
 pub mod Numbered
+-- which lines are taken at once, by how they begin
+pub mod MostLines
 -- a step with more text before it
 pub mod Local
 -- no second answer fits a contract

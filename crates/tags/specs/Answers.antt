@@ -1,12 +1,8 @@
 -- What each answer of the code says, in the words of the rules. Assumes nothing.
 use Prim.Native.Nat.{ℕ}
-use mathlib.Core.Path.{_≡_}
-use mathlib.Core.Bool.{true}
-use mathlib.Core.List.{List}
-use Rattle.text.specs.Nom.{Res, fail, ok, Span, bytes, tagged}
+use Rattle.text.specs.Nom.{Res, fail, ok}
 use Rattle.text.specs.Answers.{whyOf, spanOf, partOf, byteRangeOf, extTagOf, typeOf}
 use Rattle.attributes.specs.Answers.{mapOf}
-use Rattle.lengths.specs.Duration.{Extinf, isLong}
 use Rattle.lengths.specs.Answers.{extinfOf}
 use Rattle.tags.specs.declared.LeftOut as leftᵈ
 use Rattle.tags.specs.declared.LeftOut.the-variants as leftᵛ
@@ -16,7 +12,7 @@ use Rattle.tags.specs.declared.TagRes.{TagRes}
 use Rattle.tags.specs.declared.TagRes.the-variants as tagResᵛ
 use Rattle.tags.specs.declared.heads.NumberRes.{NumberRes}
 use Rattle.tags.specs.declared.heads.NumberRes.the-variants as numberᵛ
-use Rattle.tags.specs.declared.common.Kind.{Kind}
+use Rattle.tags.specs.declared.common.Kind as kindᵈ
 use Rattle.tags.specs.declared.common.Kind.the-variants as kindᵛ
 use Rattle.tags.specs.declared.common.Line.{Line}
 use Rattle.tags.specs.declared.common.Line.the-variants as lineᵛ
@@ -26,7 +22,8 @@ use Rattle.tags.specs.declared.HeadTag as headᵈ
 use Rattle.tags.specs.declared.HeadTag.the-variants as headᵛ
 use Rattle.tags.specs.declared.ClipTag as clipᵈ
 use Rattle.tags.specs.declared.ClipTag.the-variants as clipᵛ
-use Rattle.tags.specs.Tags.{HeadTag, version, targetDuration, mediaSequence, discontinuitySequence, typed, iFramesOnly, independentSegments, endList, ClipTag, timed, ranged, discontinuity, mapped, LeftOut, start, key, programDateTime, dateRange, Tag, ofHead, ofClip, unknown, comment, uri, leftOut, uriLine, mediaPlaylistTag}
+use Rattle.tags.specs.Tags.{HeadTag, version, targetDuration, mediaSequence, discontinuitySequence, typed, iFramesOnly, independentSegments, endList, ClipTag, timed, ranged, discontinuity, mapped, LeftOut, start, key, programDateTime, dateRange, Tag, ofHead, ofClip, unknown, comment, uri, leftOut}
+use Rattle.tags.specs.Common.{Kind, uriKind, extinfKind, otherKind, Common, takesUri, takesExtinf, takesOther, CommonEnd, endsUri, endsExtinf, endsOther}
 
 abbrev pub headTagOf : headᵈ.HeadTag → HeadTag
 headTagOf (headᵛ.Version v) = version v
@@ -66,20 +63,18 @@ abbrev pub numberRes : NumberRes → Res ℕ
 numberRes (numberᵛ.Fail why) = fail (whyOf why)
 numberRes (numberᵛ.Ok v n) = ok v n
 
--- ---- what most lines are: a URI, or one that begins as an EXTINF; of other lines nothing is said
-abbrev pub kindSays : Kind → List ℕ → ℕ → Type 0
-kindSays kindᵛ.Uri text at = mediaPlaylistTag text at ≡ uriLine text at
-kindSays kindᵛ.Extinf text at = tagged (bytes "#EXTINF:") text at ≡ true
-kindSays kindᵛ.Other text at = Unit
+-- ---- what most lines are
+abbrev pub kindOf : kindᵈ.Kind → Kind
+kindOf kindᵛ.Uri = uriKind
+kindOf kindᵛ.Extinf = extinfKind
+kindOf kindᵛ.Other = otherKind
 
--- where a URI or an EXTINF is told, the step takes it
-abbrev pub lineSays : Line → Res Tag → Type 0
-lineSays (lineᵛ.Uri s n) r = r ≡ ok (uri (spanOf s)) n
-lineSays (lineᵛ.Extinf e n) r = r ≡ ok (ofClip (timed (extinfOf e))) n
-lineSays lineᵛ.Other r = Unit
+abbrev pub commonOf : Line → Common
+commonOf (lineᵛ.Uri s n) = takesUri (spanOf s) n
+commonOf (lineᵛ.Extinf e n) = takesExtinf (extinfOf e) n
+commonOf lineᵛ.Other = takesOther
 
--- without the values: there is a URI or an EXTINF that is taken, and whether its length has too many digits
-abbrev pub endSays : LineEnd → Res Tag → Type 0
-endSays (endᵛ.Uri n) r = (s : Span) × (r ≡ ok (uri s) n)
-endSays (endᵛ.Extinf long n) r = (e : Extinf) × (r ≡ ok (ofClip (timed e)) n) × (long ≡ isLong e)
-endSays endᵛ.Other r = Unit
+abbrev pub commonEndOf : LineEnd → CommonEnd
+commonEndOf (endᵛ.Uri n) = endsUri n
+commonEndOf (endᵛ.Extinf long n) = endsExtinf long n
+commonEndOf endᵛ.Other = endsOther

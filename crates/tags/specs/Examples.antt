@@ -2,6 +2,7 @@
 use Prim.Native.Nat.{ℕ}
 use Prim.Native.String.{String}
 use mathlib.Core.Path.{_≡_, refl}
+use mathlib.Core.Bool.{true, false}
 use mathlib.Core.Option.{Option, none, some}
 use Rattle.text.specs.Why.{missingByte, loneCr}
 use Rattle.text.specs.Many.{many0, manyTurns}
@@ -12,6 +13,7 @@ use Rattle.attributes.specs.Pairs.{quoted, unquoted, keyValuePair, nextPair, ke
 use Rattle.attributes.specs.ExtMap.{extMap, extmap}
 use Rattle.lengths.specs.Duration.{counted, ns, float, extinf, durationTitleTag}
 use Rattle.tags.specs.Tags.{version, targetDuration, mediaSequence, discontinuitySequence, typed, iFramesOnly, independentSegments, endList, timed, ranged, discontinuity, mapped, key, Tag, ofHead, ofClip, unknown, comment, uri, leftOut, playlistTag, segmentTag, otherTag, mediaSegmentTag, mediaPlaylistTag, alternativeOf, took, step}
+use Rattle.tags.specs.Common.{uriKind, extinfKind, otherKind, kindAt, takesUri, takesExtinf, takesOther, commonIn}
 
 -- what is taken at a text's start
 unfoldable taken : String → Res Tag
@@ -96,6 +98,16 @@ numberIn (ok t n) = some (alternativeOf t)
 of-number : (numberIn (taken "#EXT-X-START:\n") ≡ some 6) × (numberIn (taken "#EXTINF:9,\n") ≡ some 9) × (numberIn (taken "#EXTINF:x\n") ≡ some 17)
 unfolding taken
 of-number = (refl, refl, refl)
+
+-- ---- what most lines are
+of-kind : (kindAt (bytes "a") 0 ≡ uriKind) × (kindAt (bytes "#EXTINF:9") 0 ≡ extinfKind) × (kindAt (bytes "#EXTINF") 0 ≡ otherKind) × (kindAt (bytes "") 0 ≡ otherKind)
+unfolding tagged begins
+of-kind = (refl, refl, refl, refl)
+
+-- as they are taken; but a URI that begins with `#` is other
+of-common : (commonIn false (taken "a\n") ≡ takesUri (span 0 1) 2) × (commonIn true (taken "#EXTINF:9,\n") ≡ takesExtinf (extinf (ns 9000000000) none) 11) × (commonIn true (taken "#a") ≡ takesOther)
+unfolding taken
+of-common = (refl, refl, refl)
 
 -- ---- a step drops the blanks after what it took
 of-step : (step (bytes "a\n \t\r\nb") 0 ≡ ok (took 0 (uri (span 0 1))) 6) × (step (bytes "a\n \t\r\nb") 6 ≡ ok (took 6 (uri (span 6 7))) 7)

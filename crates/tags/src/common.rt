@@ -1,5 +1,5 @@
-// What most lines of a list are, taken at once: URIs, and EXTINFs that read. The alternatives, tried in their order, come to the same
-// (`media_playlist_tag`); of any other line nothing is said here, and they are to be tried.
+// What most lines of a list are, taken at once: URIs that do not begin with `#`, and EXTINFs that read. The alternatives, tried in their order, come to
+// the same (`media_playlist_tag`). All else is `Other`, and none of these is: there they are to be tried.
 use lengths::duration;
 use lengths::duration::Extinf;
 use lengths::duration::ExtinfEnd;
@@ -8,8 +8,9 @@ use text::Span;
 use text::SpanRes;
 use text::scan;
 use text::util;
-ghost use Rattle.tags.specs.Tags as rule;
-ghost use Rattle.tags.specs.Answers.{kindSays, lineSays, endSays};
+ghost use mathlib.Core.Path.{_≡_};
+ghost use Rattle.tags.specs.Common as rule;
+ghost use Rattle.tags.specs.Answers.{kindOf, commonOf, commonEndOf};
 
 // A line with its value, and the place after it.
 pub enum Line {
@@ -34,9 +35,9 @@ enum Kind {
 // How long `#EXTINF:` is.
 const EXTINF: usize = 8;
 
-// A line that does not begin with `#` is a URI.
+// By how a line begins: one that does not begin with `#` is a URI.
 fn kind_at(text: &[u8], at: usize) -> Kind
-    ensures { λ r. ⌜ kindSays r (now (text .entry)) at ⌝ }
+    ensures { λ r. ⌜ kindOf r ≡ rule.kindAt (now (text .entry)) at ⌝ }
 {
     if text.len() <= at {
         return Kind::Other;
@@ -51,7 +52,7 @@ fn kind_at(text: &[u8], at: usize) -> Kind
 }
 
 pub fn common_line(text: &[u8], at: usize) -> Line
-    ensures { λ r. ⌜ lineSays r (rule.mediaPlaylistTag (now (text .entry)) at) ⌝ }
+    ensures { λ r. ⌜ commonOf r ≡ rule.commonAt (now (text .entry)) at ⌝ }
 {
     match kind_at(text, at) {
         Kind::Uri => match util::consume_line(text, at) {
@@ -67,7 +68,7 @@ pub fn common_line(text: &[u8], at: usize) -> Line
 }
 
 pub fn common_end(text: &[u8], at: usize) -> LineEnd
-    ensures { λ r. ⌜ endSays r (rule.mediaPlaylistTag (now (text .entry)) at) ⌝ }
+    ensures { λ r. ⌜ commonEndOf r ≡ rule.endIn (rule.commonAt (now (text .entry)) at) ⌝ }
 {
     match kind_at(text, at) {
         Kind::Uri => match util::consume_line(text, at) {

@@ -1,4 +1,4 @@
--- `common::common_line`: a URI is what `consume_line` ensures, an EXTINF what `duration_title_tag` does. Assumes nothing.
+-- `common::common_line`: a line is told by its kind (`of-kind`), a URI as `consume_line` ensures, an EXTINF as `duration_title_tag` does. Assumes nothing.
 use native.Mathlib.Omega.{arith}
 use Prim.Native.Nat.{_-_, _^_}
 use mathlib.Core.Path.{_≡_, sym, _∙_, ap}
@@ -9,7 +9,8 @@ use Rattle.text.specs.Nom.{bytes, tagged}
 use Rattle.text.specs.Answers.{spanRes}
 use Rattle.text.proofs.Laws.{tagged-below}
 use Rattle.lengths.specs.Answers.{extinfRes}
-use Rattle.tags.proofs.Begins.{kind-is, uri-read, extinf-taken}
+use Rattle.tags.specs.Answers.{kindOf}
+use Rattle.tags.proofs.MostLines.{uriIn, extinfIn, extinf-there, of-kind}
 use Rattle.tags.proofs.common.common_line.Statement.{statement}
 use Rattle.tags.proofs.common.common_line.Tie as tie
 
@@ -26,20 +27,24 @@ enum-known-line : tie.Need-enum-known-line
 enum-known-line c = search needs
 
 returns : tie.Need-returns
-returns c = let t = c .before .before .before in kind-is _ _ (t .before .before .before .kind-at .ensures) (t .before .enum-told .given .1) ∙ uri-read _ _ _ _ (sym (t .consume-line .ensures) ∙ ap spanRes (c .before .line .given .1))
+returns c =
+    let t = c .before .before .before in
+    ap uriIn (sym (ap spanRes (c .before .line .given .1)) ∙ t .consume-line .ensures) ∙ of-kind _ _ (t .before .before .before .kind-at .ensures) (t .before .enum-told .given .1)
 
 enum-told-2 : tie.Need-enum-told-2
 enum-told-2 c = search needs
 
 returns-2 : tie.Need-returns-2
-returns-2 c = tt
+returns-2 c =
+    let t = c .before .before in
+    ap uriIn (sym (ap spanRes (c .enum-told2 .given .1)) ∙ t .consume-line .ensures) ∙ of-kind _ _ (t .before .before .before .kind-at .ensures) (t .before .enum-told .given .1)
 
 enum-told-3 : tie.Need-enum-told-3
 enum-told-3 c = search needs
 
 -- the line begins as an EXTINF
 there : (c : tie.After-enum-told3) → (let a = c .before .before .before .before .args in tagged (bytes "#EXTINF:") (now (a .text)) (a .at) ≡ true)
-there c = kind-is _ _ (c .before .before .kind-at .ensures) (c .enum-told3 .given .1)
+there c = extinf-there _ _ (sym (c .before .before .kind-at .ensures) ∙ ap kindOf (c .enum-told3 .given .1))
 
 add-duration-title-tag : tie.Need-add-duration-title-tag
 add-duration-title-tag c = omega (arith, tagged-below _ _ _ (2 ^ 64 - 1) (omega arith) (omega arith) (there c))
@@ -51,19 +56,23 @@ enum-known-e : tie.Need-enum-known-e
 enum-known-e c = search needs
 
 returns-3 : tie.Need-returns-3
-returns-3 c = let t = c .before .before .before in extinf-taken _ _ (there (t .before)) _ _ (sym (t .duration-title-tag .ensures) ∙ ap extinfRes (c .before .e .given .1))
+returns-3 c =
+    let t = c .before .before .before in
+    ap extinfIn (sym (ap extinfRes (c .before .e .given .1)) ∙ t .duration-title-tag .ensures) ∙ of-kind _ _ (t .before .before .before .kind-at .ensures) (t .before .enum-told3 .given .1)
 
 enum-told-4 : tie.Need-enum-told-4
 enum-told-4 c = search needs
 
 returns-4 : tie.Need-returns-4
-returns-4 c = tt
+returns-4 c =
+    let t = c .before .before in
+    ap extinfIn (sym (ap extinfRes (c .enum-told4 .given .1)) ∙ t .duration-title-tag .ensures) ∙ of-kind _ _ (t .before .before .before .kind-at .ensures) (t .before .enum-told3 .given .1)
 
 enum-told-5 : tie.Need-enum-told-5
 enum-told-5 c = search needs
 
 returns-5 : tie.Need-returns-5
-returns-5 c = tt
+returns-5 c = of-kind _ _ (c .before .before .kind-at .ensures) (c .enum-told5 .given .1)
 
 pub common-line-spec : {M : Type 1} → statement M
 common-line-spec =

@@ -1,18 +1,19 @@
--- `common::kind_at`: where no `#` stands it is a URI (`not-hash`). Assumes nothing.
+-- `common::kind_at`: the tests of the code are those of the rule. Assumes nothing.
 use mathlib.Core.Path.{sym, _∙_}
 use borrow.Author.Needs.{needs}
-use Rattle.tags.proofs.Begins.{not-hash}
+use denote.Ref.{now}
+use Rattle.tags.proofs.MostLines.{kind-past, kind-uri, kind-hash}
 use Rattle.tags.proofs.common.kind_at.Statement.{statement}
 use Rattle.tags.proofs.common.kind_at.Tie as tie
 
 returns : tie.Need-returns
-returns c = tt
+returns c = kind-past (now (c .before .before .args .text)) _ (c .if1 .taken)
 
 shared-slice-read-if2 : tie.Need-shared-slice-read-if2
 shared-slice-read-if2 c = search needs
 
 returns-2 : tie.Need-returns-2
-returns-2 c = not-hash _ _ (c .if2 .taken) (c .before .before .if1 .left)
+returns-2 c = kind-uri (now (c .before .before .before .before .args .text)) _ (c .before .before .if1 .left) (c .if2 .taken)
 
 slice-aggregate-starts-with : tie.Need-slice-aggregate-starts-with
 slice-aggregate-starts-with c = search needs
@@ -21,10 +22,10 @@ starts-with-requires : tie.Need-starts-with-requires
 starts-with-requires c κs = search needs
 
 returns-3 : tie.Need-returns-3
-returns-3 c = sym (c .before .starts-with .ensures) ∙ c .if3 .taken
+returns-3 c = let h = c .before .before .before in kind-hash _ _ (h .before .before .if1 .left) (h .if2 .left) (sym (c .before .starts-with .ensures) ∙ c .if3 .taken)
 
 returns-4 : tie.Need-returns-4
-returns-4 c = tt
+returns-4 c = let h = c .before .before .before in kind-hash _ _ (h .before .before .if1 .left) (h .if2 .left) (sym (c .before .starts-with .ensures) ∙ c .if3 .left)
 
 pub kind-at-spec : {M : Type 1} → statement M
 kind-at-spec =

@@ -12,6 +12,7 @@ use Rattle.lengths.specs.Duration.{Extinf}
 use Rattle.tags.specs.Tags.{timed, Tag, ofClip, uri, took, mediaPlaylistTag}
 use Rattle.tags.specs.Tags as tags
 use Rattle.tags.specs.Answers.{tagOf, tagRes}
+use Rattle.tags.proofs.MostLines.{common-ends}
 use Rattle.lengths.specs.Duration.{isLong}
 use Rattle.media.specs.declared.state.Counts.{Counts}
 use Rattle.media.specs.declared.reading.CountStep.{CountStep}
@@ -38,7 +39,7 @@ abbrev read : tie.Start → List ℕ
 read c = now (c .args .text)
 
 said-uri : (c : tie.After-after) → (u : Span) × (mediaPlaylistTag (read (start-uri c)) (start-uri c .args .self .at) ≡ ok (uri u) (c .after .given .0 .0))
-said-uri c = rw (c .after .given .1) at (c .before .before .common-end .ensures)
+said-uri c = rw (c .after .given .1) at (common-ends _ _ (c .before .before .common-end .ensures))
 
 took-uri : (c : tie.After-after) (n : ℕ) → n ≡ runEnd (isOneOf (bytes " \t\r\n")) (read (start-uri c)) (c .after .given .0 .0)
     → TookTo (read (start-uri c)) (start-uri c .args .self .at) (uri (said-uri c .0)) n
@@ -49,7 +50,7 @@ start-extinf c = c .before .before .before .before
 
 said-extinf : (c : tie.After-too-many)
     → (e : Extinf) × (mediaPlaylistTag (read (start-extinf c)) (start-extinf c .args .self .at) ≡ ok (ofClip (timed e)) (c .too-many .given .0 .1 .0)) × (c .too-many .given .0 .0 ≡ isLong e)
-said-extinf c = rw (c .too-many .given .1) at (c .before .before .common-end .ensures)
+said-extinf c = rw (c .too-many .given .1) at (common-ends _ _ (c .before .before .common-end .ensures))
 
 took-extinf : (c : tie.After-too-many) (n : ℕ) → n ≡ runEnd (isOneOf (bytes " \t\r\n")) (read (start-extinf c)) (c .too-many .given .0 .1 .0)
     → TookTo (read (start-extinf c)) (start-extinf c .args .self .at) (ofClip (timed (said-extinf c .0))) n

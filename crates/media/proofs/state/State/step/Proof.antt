@@ -12,6 +12,7 @@ use Rattle.text.specs.Answers.{spanOf}
 use Rattle.lengths.specs.Answers.{extinfOf}
 use Rattle.tags.specs.Tags.{ClipTag, timed, Tag, ofClip, uri, mediaPlaylistTag}
 use Rattle.tags.specs.Answers.{tagOf, tagRes}
+use Rattle.tags.proofs.MostLines.{common-takes}
 use Rattle.media.specs.Assembly.{segmentOf}
 use Rattle.media.specs.Words.{clipsWords, tagsWords}
 use Rattle.media.proofs.Parts.{segment-next, counts-next}
@@ -31,7 +32,7 @@ abbrev tag-uri : tie.After-uri → Tag
 tag-uri c = uri (spanOf (c .uri .given .0 .0))
 
 said-uri : (c : tie.After-uri) → mediaPlaylistTag (read (start-uri c)) (start-uri c .args .self .counts .at) ≡ ok (tag-uri c) (c .uri .given .0 .1 .0)
-said-uri c = rw (c .uri .given .1) at (c .before .before .common-line .ensures)
+said-uri c = rw (c .uri .given .1) at (common-takes _ _ (c .before .before .common-line .ensures))
 
 took-uri : (c : tie.After-uri) (n : ℕ) → n ≡ runEnd (isOneOf (bytes " \t\r\n")) (read (start-uri c)) (c .uri .given .0 .1 .0)
     → TookTo (read (start-uri c)) (start-uri c .args .self .counts .at) (tag-uri c) n
@@ -44,7 +45,7 @@ abbrev told-extinf : tie.After-e → ClipTag
 told-extinf c = timed (extinfOf (c .e .given .0 .0))
 
 said-extinf : (c : tie.After-e) → mediaPlaylistTag (read (start-extinf c)) (start-extinf c .args .self .counts .at) ≡ ok (ofClip (told-extinf c)) (c .e .given .0 .1 .0)
-said-extinf c = rw (c .e .given .1) at (c .before .before .common-line .ensures)
+said-extinf c = rw (c .e .given .1) at (common-takes _ _ (c .before .before .common-line .ensures))
 
 took-extinf : (c : tie.After-e) (n : ℕ) → n ≡ runEnd (isOneOf (bytes " \t\r\n")) (read (start-extinf c)) (c .e .given .0 .1 .0)
     → TookTo (read (start-extinf c)) (start-extinf c .args .self .counts .at) (ofClip (told-extinf c)) n
