@@ -78,8 +78,8 @@ module _ (text : List ℕ) (a b : ℕ) (m : a ≤ b) where
   run-on p h = same (runEnd p text) a b m (λ j n l. run-step p text j (h j n l .0) (h j n l .1))
 
   -- a line past bytes above CR
-  pub line-on : (hi : ℕ) → All (There 14 hi text) a b → runEnd (isNoneOf (bytes "\r\n")) text a ≡ runEnd (isNoneOf (bytes "\r\n")) text b
-  line-on hi h = run-on (isNoneOf (bytes "\r\n")) (λ j n l. (h j n l .0, above (getD text j 0) (h j n l .1 .0)))
+  pub line-on : All (λ j. (j < length text) × (14 ≤ getD text j 0)) a b → runEnd (isNoneOf (bytes "\r\n")) text a ≡ runEnd (isNoneOf (bytes "\r\n")) text b
+  line-on h = run-on (isNoneOf (bytes "\r\n")) (λ j n l. (h j n l .0, above (getD text j 0) (h j n l .1)))
     where
       above : (x : ℕ) → 14 ≤ x → isNoneOf (bytes "\r\n") x ≡ true
       above x k = rw (ne-eqb 13 x (λ e. omega arith), ne-eqb 10 x (λ e. omega arith))

@@ -22,5 +22,7 @@ pub mod Line
 pub mod Chars
 -- stretches of places
 pub mod Blocks
+-- eight bytes at once
+pub mod Eight
 -- no second answer fits a contract
 pub mod Only

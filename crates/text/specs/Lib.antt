@@ -10,6 +10,8 @@ pub mod Util
 pub mod BasicTags
 -- a text made of lines
 pub mod Lines
+-- a number as bytes
+pub mod Word
 -- what the code's answers say in these words
 pub mod Answers
 pub mod Examples

@@ -4,6 +4,7 @@
 
 pub mod utf8; // RFC 3629
 pub mod scan; // prefixes, and runs of bytes
+mod word; // eight bytes at once
 pub mod util; // lines, numbers, byte ranges
 pub mod basic_tags; // the first line, unknown tags, comments, playlist types
 

@@ -1,6 +1,7 @@
 // Prefixes, and runs of bytes that pass a test.
 use crate::Part;
 use crate::Span;
+use crate::word;
 ghost use mathlib.Core.Path.{_≡_};
 ghost use mathlib.Core.Bool.{true};
 ghost use mathlib.Core.List.{[], _∷_};
@@ -234,30 +235,26 @@ pub fn until_one(text: &[u8], at: usize, a: u8) -> usize
     until_four(text, at, a, a, a, a)
 }
 
-// How many bytes of a line are looked at in one go, and how many of what is left behind the last such block.
+// How many bytes of a line are looked at in one go.
 const LINE_BLOCK: usize = 16;
-
-const HALF_BLOCK: usize = 8;
 
 // The byte after CR: neither it nor any above ends a line.
 const ABOVE_CR: u8 = 0x0E;
 
 // Past blocks of bytes above CR, which end no line.
-fn line_blocks_end(text: &[u8], at: usize, size: usize) -> usize
-    requires { ⌜ 0 < size ⌝ }
+fn line_blocks_end(text: &[u8], at: usize) -> usize
     ensures { λ r. ⌜ runEnd (isNoneOf (bytes "\r\n")) (now (text .entry)) at ≡ runEnd (isNoneOf (bytes "\r\n")) (now (text .entry)) r ⌝ }
 {
-    within_end(text, at, size, ABOVE_CR, 0xFF)
+    within_end(text, at, LINE_BLOCK, ABOVE_CR, 0xFF)
 }
 
 // The end of the line at `at`: the first CR or LF from there on, or where the text ends.
 pub fn line_end(text: &[u8], at: usize) -> usize
     ensures { λ r. ⌜ r ≡ runEnd (isNoneOf (bytes "\r\n")) (now (text .entry)) at ⌝ }
 {
-    let blocks = line_blocks_end(text, at, LINE_BLOCK);
-    let halves = line_blocks_end(text, blocks, HALF_BLOCK);
-    let single = line_blocks_end(text, halves, 1);
-    until_two(text, single, b'\r', b'\n')
+    let blocks = line_blocks_end(text, at);
+    let words = word::above_cr_end(text, blocks);
+    until_two(text, words, b'\r', b'\n')
 }
 
 // `while_any` for a set of four bytes, tested in place.

@@ -1,0 +1,14 @@
+-- A number as bytes, and a mark on those of them that may end a line. Assumes nothing.
+use Prim.Native.Nat.{ℕ, zero, suc, _/_, _%_}
+use mathlib.Core.Bool.{cond}
+use mathlib.Core.List.{List, [], _∷_}
+use lib.Dec.{ltb}
+
+-- so many bytes of a number, the lowest first
+unfoldable pub bytesOf : ℕ → ℕ → List ℕ
+bytesOf zero w = []
+bytesOf (suc n) w = w % 256 ∷ bytesOf n (w / 256)
+
+-- the highest bit of a byte where the byte is not above CR, else 0
+unfoldable pub mark : ℕ → ℕ
+mark b = cond (ltb b 14) 128 0
