@@ -10,9 +10,10 @@ use Rattle.text.specs.Util.{ByteRange}
 use Rattle.text.specs.Lines.{unlines}
 use Rattle.attributes.specs.ExtMap.{Map}
 use Rattle.media.specs.Assembly.{Head, head, segment, Clip, clip}
-use Rattle.records.specs.Records.{clipAt, tagAt, listed, clipsAt, tagsAt}
+use Rattle.tables.specs.Table.{listed}
+use Rattle.tables.proofs.Listed.{listed-run}
+use Rattle.records.specs.Records.{clipAt, tagAt, clipsAt, tagsAt}
 use Rattle.records.specs.Same.{shown}
-use Rattle.records.proofs.Listed.{listed-run}
 use Rattle.playlist.specs.Lines.{Line, headerLine, versionLine, independentSegmentsLine, targetDurationLine, mediaSequenceLine}
 use Rattle.playlist.specs.Lines.{discontinuitySequenceLine, playlistTypeLine, iFramesOnlyLine, byteRangeLine, discontinuityLine, extinfLine, uriLine, endListLine}
 use Rattle.playlist.specs.Lines.{lineBytes, lineIf, lineWhere, lineUnlessZero, typeText, mapLineOf, tagLineOf, titleText}

@@ -15,8 +15,8 @@ use Rattle.playlist.proofs.Laying.{Laying, lay-none, lay-begin, lay-as,
 use Rattle.text.specs.BasicTags.{ExtTag}
 use Rattle.text.specs.Lines.{unlines}
 use Rattle.media.specs.Assembly.{Clip, clip}
+use Rattle.tables.proofs.Listed.{listed-left, listed-over}
 use Rattle.records.specs.Records.{clipAt, tagAt, tagsAt}
-use Rattle.records.proofs.Listed.{listed-left, listed-over}
 use Rattle.playlist.specs.Lines.{lineBytes, tagLineOf, clipLines, clipsLines}
 use Rattle.playlist.proofs.Text.{scaled-digit, scaled-rest, no-line, more-lines, lines-append}
 use Rattle.playlist.proofs.Groups.{tagsText, clipText, clipsText}

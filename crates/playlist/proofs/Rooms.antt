@@ -7,8 +7,8 @@ use native.Mathlib.Nat.{sub-zero}
 use native.Mathlib.Omega.{arith}
 use lib.Dec.{leb}
 use borrow.Author.Tests.{le-leb, lt-leb, leb-true, leb-false}
-use Rattle.records.specs.Records.{listed}
-use Rattle.records.proofs.Listed.{listed-left, listed-over}
+use Rattle.tables.specs.Table.{listed}
+use Rattle.tables.proofs.Listed.{listed-left, listed-over}
 use Rattle.playlist.specs.Room.{left, short, roomFor}
 
 module _ (room n : ℕ) where

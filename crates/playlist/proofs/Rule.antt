@@ -1,16 +1,14 @@
--- What rule 9 gives the writer: the table holds each clip whole, each clip and each unknown tag of the tables lies within the text, each run of tags within the tags. Rests on the facts of records/proofs/Kept.
+-- What rule 9 gives the writer: each clip and each unknown tag of the tables lies within the text, each run of tags within the tags. Rests on the facts of records/proofs/Kept.
 -- Assumes nothing.
 use mathlib.Core.Path.{_≡_, refl}
 use mathlib.Core.Bool.{Bool, true, false, not, _&&_}
 use mathlib.Core.List.{List}
-use Prim.Native.Nat.{ℕ, _+_, _*_, _≤_, _<_}
+use Prim.Native.Nat.{ℕ, _+_, _≤_, _<_}
 use lib.Dec.{eqb}
-use lib.ListN.{length}
 use borrow.Author.Tests.{lt-ltb}
 use Rattle.text.specs.Nom.{Span, span}
 use Rattle.tables.specs.Layout as layout
 use Rattle.tables.specs.Table.{clipWord, tagWord, hasFlag}
-use Rattle.tables.proofs.Records.{fits-words}
 use Rattle.attributes.specs.ExtMap.{extMap}
 use Rattle.media.specs.Assembly.{Head, Segment, clip}
 use Rattle.records.specs.Records.{optional, partAt, rangeAt, mapAt, clipAt, tagAt}
@@ -52,10 +50,6 @@ module _ (text : List ℕ) (h : Head) (clips : List ℕ) (n : ℕ) (tags : List 
         ),
         run-within text h clips n tags m kept k l,
       )
-
-  -- the table holds each of them whole
-  pub clips-held : n * layout.clipWords ≤ length clips
-  clips-held = fits-words layout.clipWords n clips (rule-kept text h clips n tags m r .clips-fit)
 
   pub tags-fit : (k : ℕ) → k < m → tagFits text (tagAt tags k) ≡ true
   unfolding tagFits tagAt

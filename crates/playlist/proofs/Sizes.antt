@@ -15,8 +15,9 @@ use Rattle.text.specs.Lines.{unlines}
 use Rattle.attributes.specs.ExtMap.{Map}
 use Rattle.digits.specs.Digits.{lengthText}
 use Rattle.media.specs.Assembly.{Head, head, Segment, segment, Clip, clip}
-use Rattle.records.specs.Records.{listed, clipsAt, tagsAt}
-use Rattle.records.proofs.Listed.{listed-run}
+use Rattle.tables.specs.Table.{listed}
+use Rattle.tables.proofs.Listed.{listed-run}
+use Rattle.records.specs.Records.{clipsAt, tagsAt}
 use Rattle.records.specs.Rule9.{spanFits}
 use Rattle.records.specs.Same.{shown}
 use Rattle.playlist.specs.Lines.{Line, headerLine, versionLine, targetDurationLine, mediaSequenceLine, discontinuitySequenceLine, playlistTypeLine, independentSegmentsLine, iFramesOnlyLine, discontinuityLine, mapLine, byteRangeLine, unknownLine, extinfLine, uriLine, rangeBytes, mapRangeBytes, restBytes, lineBytes, lineIf, lineWhere, lineUnlessZero, typeText, mapLineOf, tagLineOf, titleText, headLines, clipLines, clipsLines, endLines, playlistLines, playlistText}

@@ -7,14 +7,14 @@ use records::value;
 ghost use mathlib.Core.Path.{_≡_};
 ghost use mathlib.Core.Bool.{true};
 ghost use mathlib.Core.List.{map};
-ghost use Prim.Native.Nat.{ℕ, _+_, _*_, _^_, _≤_, _<_};
+ghost use Prim.Native.Nat.{ℕ, _+_, _^_, _≤_, _<_};
 ghost use lib.ListN.{length};
 ghost use Rattle.text.specs.Lines.{unlines};
 ghost use Rattle.tables.specs.Layout as layout;
-ghost use Rattle.tables.specs.Table.{clipWord};
+ghost use Rattle.tables.specs.Table.{listed, clipWord};
 ghost use Rattle.verdict.specs.Calls.{textLimit};
 ghost use Rattle.media.specs.Answers.{headSeen, clipSeen};
-ghost use Rattle.records.specs.Records.{tagAt, clipAt, listed, clipsAt, tagsAt};
+ghost use Rattle.records.specs.Records.{tagAt, clipAt, clipsAt, tagsAt};
 ghost use Rattle.records.specs.Rule9.{keepsRule};
 ghost use Rattle.playlist.specs.Answers.{roomOf};
 ghost use Rattle.playlist.specs.Calls.{writtenText};
@@ -87,7 +87,6 @@ fn clips_room(
     room: usize,
 ) -> Room
     requires { ⌜ length (now text) ≤ textLimit ⌝ }
-    requires { ⌜ «clip_count» * layout.clipWords ≤ length (now clips) ⌝ }
     requires { ⌜ ((k : ℕ) → k < «clip_count» → (clipFits (now text) (clipAt (now clips) k) ≡ true) × (clipWord (now clips) k layout.firstTag + clipWord (now clips) k layout.tagCount ≤ «tag_count»)) ⌝ }
     requires { ⌜ ((k : ℕ) → k < «tag_count» → tagFits (now text) (tagAt (now tags) k) ≡ true) ⌝ }
     ensures { λ r. ⌜ roomOf r ≡ roomFor room (length (unlines lineBytes (clipsLines (now (text .entry)) (tagsAt (now (tags .entry)) «tag_count») (clipsAt (now (clips .entry)) «clip_count»)))) ⌝ }

@@ -7,14 +7,14 @@ use records::value;
 ghost use mathlib.Core.Path.{_≡_};
 ghost use mathlib.Core.Bool.{true};
 ghost use mathlib.Core.List.{_++_, map};
-ghost use Prim.Native.Nat.{ℕ, _+_, _*_, _^_, _≤_, _<_};
+ghost use Prim.Native.Nat.{ℕ, _+_, _^_, _≤_, _<_};
 ghost use lib.ListN.{length};
 ghost use lib.Seq.{sets};
 ghost use Rattle.text.specs.Lines.{unlines};
 ghost use Rattle.tables.specs.Layout as layout;
-ghost use Rattle.tables.specs.Table.{clipWord};
+ghost use Rattle.tables.specs.Table.{listed, clipWord};
 ghost use Rattle.media.specs.Answers.{headTypeOf, headSeen, clipSeen};
-ghost use Rattle.records.specs.Records.{tagAt, clipAt, listed, clipsAt, tagsAt};
+ghost use Rattle.records.specs.Records.{tagAt, clipAt, clipsAt, tagsAt};
 ghost use Rattle.records.specs.Rule9.{headFits, keepsRule};
 ghost use Rattle.playlist.specs.Fits.{tagFits, clipFits};
 ghost use Rattle.playlist.specs.Lines.{mediaSequenceLine, discontinuitySequenceLine, playlistTypeLine, iFramesOnlyLine, lineBytes, lineIf, lineWhere, lineUnlessZero, typeText, tagLineOf, headLines, clipLines, clipsLines};
@@ -125,7 +125,6 @@ fn clips(
     tags: &[u64],
     tag_count: usize,
 ) -> usize
-    requires { ⌜ «clip_count» * layout.clipWords ≤ length (now clips) ⌝ }
     requires { ⌜ ((k : ℕ) → k < «clip_count» → (clipFits (now text) (clipAt (now clips) k) ≡ true) × (clipWord (now clips) k layout.firstTag + clipWord (now clips) k layout.tagCount ≤ «tag_count»)) ⌝ }
     requires { ⌜ ((k : ℕ) → k < «tag_count» → tagFits (now text) (tagAt (now tags) k) ≡ true) ⌝ }
     requires { ⌜ at + length (unlines lineBytes (clipsLines (now text) (tagsAt (now tags) «tag_count») (clipsAt (now clips) «clip_count»))) ≤ length (now out) ⌝ }

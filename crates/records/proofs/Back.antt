@@ -15,11 +15,11 @@ use Rattle.text.specs.Util.{ByteRange, range}
 use Rattle.text.specs.BasicTags.{ExtTag, ext}
 use Rattle.attributes.specs.ExtMap.{Map, extMap}
 use Rattle.tables.specs.Layout as layout
-use Rattle.tables.specs.Table.{clipWord, tagWord, hasFlag}
+use Rattle.tables.specs.Table.{listed, clipWord, tagWord, hasFlag}
 use Rattle.media.specs.Assembly.{segment, Clip, clip}
 use Rattle.media.specs.Words.{partWords, rangeWords, mapWords, flagsOf, clipWordsOf, tagWordsOf, clipsWords, tagsWords}
 use Rattle.media.proofs.ReadBack.{clip-back, tag-back}
-use Rattle.records.specs.Records.{optional, partAt, rangeAt, mapAt, clipAt, tagAt, listed, clipsAt, tagsAt}
+use Rattle.records.specs.Records.{optional, partAt, rangeAt, mapAt, clipAt, tagAt, clipsAt, tagsAt}
 
 -- ---- parts
 -- a part that is absent, or ends past 0

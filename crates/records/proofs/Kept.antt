@@ -9,12 +9,12 @@ use lib.ListN.{length, take, drop}
 use borrow.Author.Tests.{leb-true, ltb-true, eqb-true}
 use Rattle.lengths.specs.Binary32.{secondsBits}
 use Rattle.tables.specs.Layout as layout
-use Rattle.tables.specs.Table.{every, clipsFit, tagsFit, clipWord, tagWord}
+use Rattle.tables.specs.Table.{every, listed, clipsFit, tagsFit, clipWord, tagWord}
 use Rattle.tables.proofs.Every.{every-at}
+use Rattle.tables.proofs.Listed.{listed-run}
 use Rattle.media.specs.Assembly.{Head}
-use Rattle.records.specs.Records.{tagAt, listed, tagsAt}
+use Rattle.records.specs.Records.{tagAt, tagsAt}
 use Rattle.records.specs.Rule9.{spanFits, headFits, flagsKeep, plainKeep, rangeKeeps, mapKeeps, clipKeeps, tagKeeps, tagsUpTo, runsAdjoin, keepsRule}
-use Rattle.records.proofs.Listed.{listed-run}
 use Rattle.records.proofs.Runs.{adjoins, tags-step, tags-mono}
 
 -- the first of two tests, and the other

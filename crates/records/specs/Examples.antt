@@ -11,9 +11,9 @@ use Rattle.text.specs.BasicTags.{ext, PlaylistType, event, vod, other}
 use Rattle.attributes.specs.ExtMap.{extMap}
 use Rattle.lengths.specs.Binary32.{secondsBits}
 use Rattle.tables.specs.Layout as layout
-use Rattle.tables.specs.Table.{every, fits, hasFlag}
+use Rattle.tables.specs.Table.{every, listed, fits, hasFlag}
 use Rattle.media.specs.Assembly.{Head, head, emptyHead, segment, clip}
-use Rattle.records.specs.Records.{partAt, rangeAt, mapAt, clipAt, tagAt, listed, clipsAt, tagsAt}
+use Rattle.records.specs.Records.{partAt, rangeAt, mapAt, clipAt, tagAt, clipsAt, tagsAt}
 use Rattle.records.specs.Rule9.{flagsKeep, plainKeep, rangeKeeps, mapKeeps, clipKeeps, tagKeeps, tagsUpTo, runsAdjoin, keepsRule}
 
 -- a text of 100 bytes

@@ -1,7 +1,7 @@
 -- A clip and an unknown tag out of their words (01, "Clip record"): the way back from what a reading stored. Assumes nothing.
-use Prim.Native.Nat.{ℕ, zero, suc}
+use Prim.Native.Nat.{ℕ}
 use mathlib.Core.Bool.{Bool, true, false, not, _&&_}
-use mathlib.Core.List.{List, [], _∷_}
+use mathlib.Core.List.{List}
 use mathlib.Core.Option.{Option, none, some}
 use lib.Dec.{eqb}
 use Rattle.text.specs.Nom.{Span, span}
@@ -9,7 +9,7 @@ use Rattle.text.specs.Util.{ByteRange, range}
 use Rattle.text.specs.BasicTags.{ExtTag, ext}
 use Rattle.attributes.specs.ExtMap.{Map, extMap}
 use Rattle.tables.specs.Layout as layout
-use Rattle.tables.specs.Table.{clipWord, tagWord, hasFlag}
+use Rattle.tables.specs.Table.{listed, clipWord, tagWord, hasFlag}
 use Rattle.media.specs.Assembly.{segment, Clip, clip}
 
 abbrev pub optional : {A : Type 0} → Bool → A → Option A
@@ -49,11 +49,7 @@ module _ (t : List ℕ) where
   unfoldable pub tagAt : ℕ → ExtTag
   tagAt k = ext (span (tagWord t k layout.nameStart) (tagWord t k layout.nameEnd)) (partAt (tagWord t k layout.restStart) (tagWord t k layout.restEnd))
 
--- n records from record k on
-unfoldable pub listed : {A : Type 0} → (ℕ → A) → ℕ → ℕ → List A
-listed at k zero = []
-listed at k (suc n) = at k ∷ listed at (suc k) n
-
+-- the first n records of a table
 abbrev pub clipsAt : List ℕ → ℕ → List Clip
 clipsAt t n = listed (clipAt t) 0 n
 

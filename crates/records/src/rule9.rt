@@ -55,6 +55,15 @@ fn flags_keep(flags: u64) -> bool
     (flags < layout::FLAG_LIMIT) & (range_offset & (map_range & map_offset))
 }
 
+// The word at a place of clip k, which the table holds whole: no test is left to make.
+fn held_word(clips: &[u64], k: usize, place: usize) -> u64
+    requires { ⌜ (k + 1) * layout.clipWords ≤ length (now clips) ⌝ }
+    requires { ⌜ place < layout.clipWords ⌝ }
+    ensures { λ r. ⌜ r ≡ clipWord (now (clips .entry)) k place ⌝ }
+{
+    clips[k * layout::CLIP_WORDS + place]
+}
+
 // The span whose words stand at two places of clip k.
 fn clip_span_fits(text: &[u8], clips: &[u64], k: usize, start: usize, end: usize) -> bool
     requires { ⌜ (k + 1) * layout.clipWords ≤ length (now clips) ⌝ }
@@ -62,8 +71,8 @@ fn clip_span_fits(text: &[u8], clips: &[u64], k: usize, start: usize, end: usize
     requires { ⌜ end < layout.clipWords ⌝ }
     ensures { λ r. ⌜ r ≡ rule.spanFits (now (text .entry)) (clipWord (now (clips .entry)) k start) (clipWord (now (clips .entry)) k end) ⌝ }
 {
-    let from = record::held_word(clips, k, start);
-    let to = record::held_word(clips, k, end);
+    let from = held_word(clips, k, start);
+    let to = held_word(clips, k, end);
     span_fits(text, from, to)
 }
 
@@ -73,8 +82,8 @@ fn zero_without(clips: &[u64], k: usize, flag: u64, place: usize) -> bool
     requires { ⌜ place < layout.clipWords ⌝ }
     ensures { λ r. ⌜ r ≡ rule.zeroWithout (clipWord (now (clips .entry)) k layout.flags) flag (clipWord (now (clips .entry)) k place) ⌝ }
 {
-    let flags = record::held_word(clips, k, layout::FLAGS);
-    let word = record::held_word(clips, k, place);
+    let flags = held_word(clips, k, layout::FLAGS);
+    let word = held_word(clips, k, place);
     record::has_flag(flags, flag) | (word == 0)
 }
 
@@ -84,8 +93,8 @@ fn plain_keep(text: &[u8], clips: &[u64], k: usize) -> bool
     ensures { λ r. ⌜ r ≡ rule.plainKeep (now (text .entry)) (now (clips .entry)) k ⌝ }
 {
     let uri = clip_span_fits(text, clips, k, layout::URI_START, layout::URI_END);
-    let length = record::held_word(clips, k, layout::LENGTH);
-    let bits = record::held_word(clips, k, layout::BITS);
+    let length = held_word(clips, k, layout::LENGTH);
+    let bits = held_word(clips, k, layout::BITS);
     let nearest = binary32::seconds_bits(length);
     let title = clip_span_fits(text, clips, k, layout::TITLE_START, layout::TITLE_END);
     uri & ((length < layout::LENGTH_LIMIT) & ((bits == nearest) & title))
@@ -117,15 +126,40 @@ fn map_keeps(text: &[u8], clips: &[u64], k: usize) -> bool
     uri & (list & (uri_start & (uri_end & (list_start & (list_end & (length & offset))))))
 }
 
+// The words of range and map of a clip without flags: all are zeros.
+fn untold(clips: &[u64], k: usize) -> bool
+    requires { ⌜ (k + 1) * layout.clipWords ≤ length (now clips) ⌝ }
+    requires { ⌜ clipWord (now clips) k layout.flags ≡ 0 ⌝ }
+    ensures { λ r. ⌜ ((text : List ℕ) → r ≡ rule.rangeKeeps text (now (clips .entry)) k && rule.mapKeeps text (now (clips .entry)) k) ⌝ }
+{
+    let range_length = held_word(clips, k, layout::RANGE_LENGTH);
+    let range_offset = held_word(clips, k, layout::RANGE_OFFSET);
+    let uri_start = held_word(clips, k, layout::MAP_URI_START);
+    let uri_end = held_word(clips, k, layout::MAP_URI_END);
+    let map_length = held_word(clips, k, layout::MAP_RANGE_LENGTH);
+    let map_offset = held_word(clips, k, layout::MAP_RANGE_OFFSET);
+    let list_start = held_word(clips, k, layout::MAP_LIST_START);
+    let list_end = held_word(clips, k, layout::MAP_LIST_END);
+    let range = (range_length == 0) & (range_offset == 0);
+    let map_range = (map_length == 0) & (map_offset == 0);
+    let spans = (uri_start == 0) & (uri_end == 0) & (list_start == 0) & (list_end == 0);
+    range & (map_range & spans)
+}
+
+// Most clips have no flag, and then no more is asked of range and map than zeros.
 fn clip_keeps(text: &[u8], clips: &[u64], k: usize) -> bool
     requires { ⌜ (k + 1) * layout.clipWords ≤ length (now clips) ⌝ }
     ensures { λ r. ⌜ r ≡ rule.clipKeeps (now (text .entry)) (now (clips .entry)) k ⌝ }
 {
     let plain = plain_keep(text, clips, k);
-    let flags = flags_keep(record::held_word(clips, k, layout::FLAGS));
+    let flags = held_word(clips, k, layout::FLAGS);
+    if flags == 0 {
+        return plain & untold(clips, k);
+    }
+    let kept = flags_keep(flags);
     let range = range_keeps(clips, k);
     let map = map_keeps(text, clips, k);
-    plain & (flags & (range & map))
+    plain & (kept & (range & map))
 }
 
 fn tag_keeps(text: &[u8], tags: &[u64], k: usize) -> bool
@@ -150,11 +184,11 @@ fn clips_keep(text: &[u8], clips: &[u64], clip_count: usize, tag_count: u64) -> 
         if !clip_keeps(text, clips, k) {
             return false;
         }
-        let start = record::held_word(clips, k, layout::FIRST_TAG);
+        let start = held_word(clips, k, layout::FIRST_TAG);
         if start != first {
             return false;
         }
-        let count = record::held_word(clips, k, layout::TAG_COUNT);
+        let count = held_word(clips, k, layout::TAG_COUNT);
         let left = tag_count - first;
         if left < count {
             return false;

@@ -12,8 +12,7 @@ use text::basic_tags::ExtTag;
 use text::util::ByteRange;
 use text::util::Offset;
 ghost use mathlib.Core.Path.{_≡_};
-ghost use Prim.Native.Nat.{_+_, _*_, _≤_, _<_};
-ghost use lib.ListN.{length};
+ghost use Prim.Native.Nat.{_<_};
 ghost use Rattle.text.specs.Nom.{span};
 ghost use Rattle.text.specs.Answers.{spanOf, partOf, offsetOf, extTagOf};
 ghost use Rattle.attributes.specs.Answers.{rangeAt};
@@ -57,33 +56,31 @@ fn range_at(flags: u64, present: u64, with_offset: u64, length: u64, offset: u64
     OptRange::Present(ByteRange { length, offset })
 }
 
-// The span whose words stand at two places of clip k, which the table holds whole.
-fn clip_span(clips: &[u64], k: usize, start: usize, end: usize) -> Span
-    requires { ⌜ (k + 1) * layout.clipWords ≤ length (now clips) ⌝ }
+// The span whose words stand at two places of a clip. A clip's words alone are a table of one clip.
+fn clip_span(words: &[u64; layout::CLIP_WORDS], start: usize, end: usize) -> Span
     requires { ⌜ start < layout.clipWords ⌝ }
     requires { ⌜ end < layout.clipWords ⌝ }
-    ensures { λ r. ⌜ spanOf r ≡ span (clipWord (now (clips .entry)) k start) (clipWord (now (clips .entry)) k end) ⌝ }
+    ensures { λ r. ⌜ spanOf r ≡ span (clipWord (now (words .entry)) 0 start) (clipWord (now (words .entry)) 0 end) ⌝ }
 {
-    let from = record::held_word(clips, k, start);
-    let to = record::held_word(clips, k, end);
+    let from = words[start];
+    let to = words[end];
     Span {
         start: from as usize,
         end: to as usize,
     }
 }
 
-fn map_at(clips: &[u64], k: usize) -> SegmentMap
-    requires { ⌜ (k + 1) * layout.clipWords ≤ length (now clips) ⌝ }
-    ensures { λ r. ⌜ segmentMapOf r ≡ rule.mapAt (now (clips .entry)) k ⌝ }
+fn map_at(words: &[u64; layout::CLIP_WORDS]) -> SegmentMap
+    ensures { λ r. ⌜ segmentMapOf r ≡ rule.mapAt (now (words .entry)) 0 ⌝ }
 {
-    let flags = record::held_word(clips, k, layout::FLAGS);
+    let flags = words[layout::FLAGS];
     if !record::has_flag(flags, layout::HAS_MAP) {
         return SegmentMap::Absent;
     }
-    let uri = clip_span(clips, k, layout::MAP_URI_START, layout::MAP_URI_END);
-    let list = clip_span(clips, k, layout::MAP_LIST_START, layout::MAP_LIST_END);
-    let length = record::held_word(clips, k, layout::MAP_RANGE_LENGTH);
-    let offset = record::held_word(clips, k, layout::MAP_RANGE_OFFSET);
+    let uri = clip_span(words, layout::MAP_URI_START, layout::MAP_URI_END);
+    let list = clip_span(words, layout::MAP_LIST_START, layout::MAP_LIST_END);
+    let length = words[layout::MAP_RANGE_LENGTH];
+    let offset = words[layout::MAP_RANGE_OFFSET];
     let byte_range = range_at(
         flags,
         layout::HAS_MAP_RANGE,
@@ -98,25 +95,23 @@ fn map_at(clips: &[u64], k: usize) -> SegmentMap
     })
 }
 
-fn title_at(clips: &[u64], k: usize) -> Part
-    requires { ⌜ (k + 1) * layout.clipWords ≤ length (now clips) ⌝ }
-    ensures { λ r. ⌜ partOf r ≡ rule.partAt (clipWord (now (clips .entry)) k layout.titleStart) (clipWord (now (clips .entry)) k layout.titleEnd) ⌝ }
+fn title_at(words: &[u64; layout::CLIP_WORDS]) -> Part
+    ensures { λ r. ⌜ partOf r ≡ rule.partAt (clipWord (now (words .entry)) 0 layout.titleStart) (clipWord (now (words .entry)) 0 layout.titleEnd) ⌝ }
 {
-    let start = record::held_word(clips, k, layout::TITLE_START);
-    let end = record::held_word(clips, k, layout::TITLE_END);
+    let start = words[layout::TITLE_START];
+    let end = words[layout::TITLE_END];
     part_at(start, end)
 }
 
-// Clip k of a table that holds it whole, so that no word needs a test.
-pub fn clip_at(clips: &[u64], k: usize) -> Clip
-    requires { ⌜ (k + 1) * layout.clipWords ≤ length (now clips) ⌝ }
-    ensures { λ r. ⌜ clipSeen r ≡ rule.clipAt (now (clips .entry)) k ⌝ }
+// A clip out of its words.
+fn clip_of(words: &[u64; layout::CLIP_WORDS]) -> Clip
+    ensures { λ r. ⌜ clipSeen r ≡ rule.clipAt (now (words .entry)) 0 ⌝ }
 {
-    let uri = clip_span(clips, k, layout::URI_START, layout::URI_END);
-    let title = title_at(clips, k);
-    let flags = record::held_word(clips, k, layout::FLAGS);
-    let length = record::held_word(clips, k, layout::RANGE_LENGTH);
-    let offset = record::held_word(clips, k, layout::RANGE_OFFSET);
+    let uri = clip_span(words, layout::URI_START, layout::URI_END);
+    let title = title_at(words);
+    let flags = words[layout::FLAGS];
+    let length = words[layout::RANGE_LENGTH];
+    let offset = words[layout::RANGE_OFFSET];
     let byte_range = range_at(
         flags,
         layout::HAS_RANGE,
@@ -124,22 +119,30 @@ pub fn clip_at(clips: &[u64], k: usize) -> Clip
         length,
         offset,
     );
-    let map = map_at(clips, k);
+    let map = map_at(words);
     let segment = Segment {
-        length: record::held_word(clips, k, layout::LENGTH),
+        length: words[layout::LENGTH],
         title,
         byte_range,
         discontinuity: record::has_flag(flags, layout::HAS_DISCONTINUITY),
         map,
     };
-    let first = record::held_word(clips, k, layout::FIRST_TAG);
-    let count = record::held_word(clips, k, layout::TAG_COUNT);
+    let first = words[layout::FIRST_TAG];
+    let count = words[layout::TAG_COUNT];
     Clip {
         uri,
         segment,
         first: first as usize,
         count: count as usize,
     }
+}
+
+// Clip k of a table.
+pub fn clip_at(clips: &[u64], k: usize) -> Clip
+    ensures { λ r. ⌜ clipSeen r ≡ rule.clipAt (now (clips .entry)) k ⌝ }
+{
+    let words = record::clip_words(clips, k);
+    clip_of(&words)
 }
 
 // Unknown tag k of a table.

@@ -4,5 +4,7 @@ pub mod Every
 pub mod Records
 -- words laid into a table, and read back
 pub mod Sets
+-- entries listed from an index on
+pub mod Listed
 -- chains of refusals
 pub mod Refusals

@@ -1,4 +1,4 @@
--- The comparisons that keep a count and an index from overflowing, over any width. `record::fits`, `record::word` and `record::store` cite these.
+-- The comparisons that keep a count and an index from overflowing, over any width. The functions of `record` cite these.
 -- Assumes nothing.
 use mathlib.Core.Path.{_≡_, refl, sym, _∙_}
 use mathlib.Core.Bool.{Bool, true, false}
@@ -24,6 +24,10 @@ fits-quotient w n t h = go (leb n (length t / w)) refl
 module _ (w k : ℕ) (t : List ℕ) (h : 0 < w) where
   pub fits-next : k < length t / w → fits w t (k + 1) ≡ true
   fits-next q = sym (fits-quotient w (k + 1) t h) ∙ le-leb (k + 1) (length t / w) (omega arith)
+
+  -- all its words are there
+  pub next-held : k < length t / w → (k + 1) * w ≤ length t
+  next-held q = le-div-iff-mul-le h .0 (omega arith)
 
   pub fits-not : length t / w ≤ k → fits w t (k + 1) ≡ false
   fits-not q = sym (fits-quotient w (k + 1) t h) ∙ lt-leb (k + 1) (length t / w) (omega arith)

@@ -1,7 +1,7 @@
 -- A lent table of 64-bit words, so many to a record: when a count of records fits, what stands at a place of a record, the table after a record is stored,
 -- and "every entry passes". Assumes nothing.
 use mathlib.Core.Bool.{Bool, true, cond, _&&_}
-use mathlib.Core.List.{List}
+use mathlib.Core.List.{List, [], _∷_}
 use Prim.Native.Nat.{ℕ, zero, suc, _+_, _*_, _/_, _%_}
 use lib.ListN.{length, getD}
 use lib.Seq.{sets}
@@ -12,6 +12,11 @@ use Rattle.tables.specs.Layout as layout
 unfoldable pub every : (ℕ → Bool) → ℕ → Bool
 every p zero = true
 every p (suc n) = every p n && p n
+
+-- n entries from entry k on
+unfoldable pub listed : {A : Type 0} → (ℕ → A) → ℕ → ℕ → List A
+listed at k zero = []
+listed at k (suc n) = at k ∷ listed at (suc k) n
 
 -- the count fits: n records of w words each are no more words than the table has
 unfoldable pub fits : ℕ → List ℕ → ℕ → Bool
@@ -32,6 +37,10 @@ clipWord t k i = wordAt layout.clipWords t k i
 
 abbrev pub tagWord : List ℕ → ℕ → ℕ → ℕ
 tagWord t k i = wordAt layout.tagWords t k i
+
+-- the words of clip k, in their order
+abbrev pub clipRecord : List ℕ → ℕ → List ℕ
+clipRecord t k = listed (clipWord t k) 0 layout.clipWords
 
 -- the table with a record's words laid from record k's first word on, where record k fits; else the table as it was
 unfoldable pub stored : ℕ → List ℕ → ℕ → List ℕ → List ℕ

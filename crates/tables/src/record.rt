@@ -1,9 +1,8 @@
-// Records in a lent table. Each public function answers for every count, record and place (`held_word` for those of a clip that the table holds whole), and no sum or product overflows.
+// Records in a lent table. Each public function answers for every count, record and place, and no sum or product overflows.
 use crate::layout;
 ghost use mathlib.Core.Path.{_≡_};
-ghost use Prim.Native.Nat.{_+_, _*_, _≤_, _<_};
+ghost use Prim.Native.Nat.{_<_};
 ghost use lib.ListN.{length};
-ghost use Rattle.tables.specs.Layout.{clipWords};
 ghost use Rattle.tables.specs.Table as rule;
 
 // The count is compared with what the table holds: count x width may be above 2^64 - 1.
@@ -26,8 +25,8 @@ pub fn tags_fit(words: &[u64], tags: usize) -> bool
     fits(words, layout::TAG_WORDS, tags)
 }
 
-// The word at a place of a record, 0 where the table has none. The index is computed only where it is in the table.
-fn word(words: &[u64], width: usize, index: usize, place: usize) -> u64
+// The word at a place of any record, 0 where the table has none. The index is computed only where it is in the table.
+fn edge_word(words: &[u64], width: usize, index: usize, place: usize) -> u64
     requires { ⌜ 0 < width ⌝ }
     ensures { λ r. ⌜ r ≡ rule.wordAt width (now (words .entry)) index place ⌝ }
 {
@@ -40,19 +39,53 @@ fn word(words: &[u64], width: usize, index: usize, place: usize) -> u64
     words[index * width + place]
 }
 
+// The same. A record that the table holds whole is known by one test, which is the same for each of its words.
+fn word(words: &[u64], width: usize, index: usize, place: usize) -> u64
+    requires { ⌜ 0 < width ⌝ }
+    ensures { λ r. ⌜ r ≡ rule.wordAt width (now (words .entry)) index place ⌝ }
+{
+    if place < width {
+        if index < words.len() / width {
+            return words[index * width + place];
+        }
+    }
+    edge_word(words, width, index, place)
+}
+
 pub fn clip_word(words: &[u64], clip: usize, place: usize) -> u64
     ensures { λ r. ⌜ r ≡ rule.clipWord (now (words .entry)) clip place ⌝ }
 {
     word(words, layout::CLIP_WORDS, clip, place)
 }
 
-// The word at a place of a clip that the table holds whole: no test is left to make.
-pub fn held_word(words: &[u64], clip: usize, place: usize) -> u64
-    requires { ⌜ (clip + 1) * clipWords ≤ length (now words) ⌝ }
-    requires { ⌜ place < clipWords ⌝ }
-    ensures { λ r. ⌜ r ≡ rule.clipWord (now (words .entry)) clip place ⌝ }
+// The words of any clip, 0 where the table has none.
+fn edge_clip(words: &[u64], clip: usize) -> [u64; layout::CLIP_WORDS]
+    ensures { λ r. ⌜ r ≡ rule.clipRecord (now (words .entry)) clip ⌝ }
 {
-    words[clip * layout::CLIP_WORDS + place]
+    let mut values: [u64; layout::CLIP_WORDS] = [0; layout::CLIP_WORDS];
+    let mut place: usize = 0;
+    while place < layout::CLIP_WORDS {
+        values[place] = clip_word(words, clip, place);
+        place += 1;
+    }
+    values
+}
+
+// The same. No word of a clip that the table holds whole needs a test.
+pub fn clip_words(words: &[u64], clip: usize) -> [u64; layout::CLIP_WORDS]
+    ensures { λ r. ⌜ r ≡ rule.clipRecord (now (words .entry)) clip ⌝ }
+{
+    if words.len() / layout::CLIP_WORDS <= clip {
+        return edge_clip(words, clip);
+    }
+    let start = clip * layout::CLIP_WORDS;
+    let mut values: [u64; layout::CLIP_WORDS] = [0; layout::CLIP_WORDS];
+    let mut place: usize = 0;
+    while place < layout::CLIP_WORDS {
+        values[place] = words[start + place];
+        place += 1;
+    }
+    values
 }
 
 pub fn tag_word(words: &[u64], tag: usize, place: usize) -> u64

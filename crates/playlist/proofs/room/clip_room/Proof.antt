@@ -8,7 +8,8 @@ use lib.ListN.{length}
 use Rattle.text.specs.Answers.{spanOf}
 use Rattle.text.specs.Lines.{unlines}
 use Rattle.media.specs.Answers.{segmentSeen, clipSeen}
-use Rattle.records.specs.Records.{tagAt, listed, tagsAt}
+use Rattle.tables.specs.Table.{listed}
+use Rattle.records.specs.Records.{tagAt, tagsAt}
 use Rattle.playlist.specs.Answers.{roomOf}
 use Rattle.playlist.specs.Lines.{lineBytes, clipLines}
 use Rattle.playlist.specs.Room.{roomFor}

@@ -43,9 +43,9 @@ long c xs =
 clip-room-requires : tie.Need-clip-room-requires Inv-loop μ-loop
 clip-room-requires c κs =
     let s = c .before .before .before .before .before .before in
-    let h = s .pre .1 .1 .0 (c .before .before .loop .k) (search needs) in
+    let h = s .pre .1 .0 (c .before .before .loop .k) (search needs) in
     let run = clip-run (now (s .args .clips)) (c .before .before .loop .k) (c .clip-at .ensures) in
-    (s .pre .0, (omega (arith, run, h .1), (s .pre .1 .1 .1, rw (c .clip-at .ensures) (h .0))))
+    (s .pre .0, (omega (arith, run, h .1), (s .pre .1 .1, rw (c .clip-at .ensures) (h .0))))
 
 enum-known-more : tie.Need-enum-known-more Inv-loop μ-loop
 enum-known-more c = search needs

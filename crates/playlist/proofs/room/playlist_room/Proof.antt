@@ -13,7 +13,7 @@ use Rattle.playlist.specs.Calls.{writtenText}
 use Rattle.playlist.specs.Lines.{endListLine}
 use Rattle.playlist.specs.Room.{roomFor}
 use Rattle.playlist.proofs.Text.{line-where}
-use Rattle.playlist.proofs.Rule.{clips-fit, clips-held, tags-fit}
+use Rattle.playlist.proofs.Rule.{clips-fit, tags-fit}
 use Rattle.playlist.proofs.Sizes.{clipsLong, whole-long}
 use Rattle.playlist.proofs.Rooms.{room-then, room-then-short}
 use Rattle.playlist.proofs.room.playlist_room.Statement.{statement}
@@ -62,11 +62,8 @@ clips-room-requires c κs =
     let h = headSeen (a .h) in (
       s .pre .0,
       (
-        clips-held (now (a .text)) h (now (a .clips)) (a .clip-count) (now (a .tags)) (a .tag-count) (s .pre .1),
-        (
-          clips-fit (now (a .text)) h (now (a .clips)) (a .clip-count) (now (a .tags)) (a .tag-count) (s .pre .1),
-          tags-fit (now (a .text)) h (now (a .clips)) (a .clip-count) (now (a .tags)) (a .tag-count) (s .pre .1),
-        ),
+        clips-fit (now (a .text)) h (now (a .clips)) (a .clip-count) (now (a .tags)) (a .tag-count) (s .pre .1),
+        tags-fit (now (a .text)) h (now (a .clips)) (a .clip-count) (now (a .tags)) (a .tag-count) (s .pre .1),
       ),
     )
 

@@ -7,7 +7,8 @@ use Prim.Native.Nat.{_+_, _-_}
 use denote.Ref.{now}
 use lib.ListN.{length}
 use Rattle.text.specs.BasicTags.{ExtTag}
-use Rattle.records.specs.Records.{tagAt, listed}
+use Rattle.tables.specs.Table.{listed}
+use Rattle.records.specs.Records.{tagAt}
 use Rattle.playlist.specs.Answers.{roomOf}
 use Rattle.playlist.specs.Lines.{lineBytes, tagLineOf}
 use Rattle.playlist.proofs.Sizes.{tagsLong, tags-none, tags-more}

@@ -19,7 +19,7 @@ abbrev μ-loop : tie.MeasureT-loop
 μ-loop out₀ at text clips count tags tag-count to₀ k₀ out to k = count - k
 
 loop-holds : tie.Need-loop-holds Inv-loop μ-loop
-loop-holds c = clips-none _ _ _ _ _ _ _ (c .before .before .before .before .pre .1 .1 .1)
+loop-holds c = clips-none _ _ _ _ _ _ _ (c .before .before .before .before .pre .1 .1)
 
 clip-at-requires : tie.Need-clip-at-requires Inv-loop μ-loop
 clip-at-requires c κs = search needs
@@ -40,8 +40,8 @@ clip-requires c κs =
     let e = c .before .clip-at .ensures in
     let l = c .before .before .loop-test .taken in
     let run = clip-run (now (s .args .clips)) k e in
-    let fits = ap (clipFits (now (s .args .text))) e ∙ s .pre .1 .0 k l .0 in
-    (omega (arith, run .0, run .1, s .pre .1 .0 k l .1), (s .pre .1 .1 .0, (fits, lay-room (clips-clip (c .before .before .before .loop .inv) l e))))
+    let fits = ap (clipFits (now (s .args .text))) e ∙ s .pre .0 k l .0 in
+    (omega (arith, run .0, run .1, s .pre .0 k l .1), (s .pre .1 .0, (fits, lay-room (clips-clip (c .before .before .before .loop .inv) l e))))
 
 add-to : tie.Need-add-to Inv-loop μ-loop
 add-to c =

@@ -6,7 +6,7 @@ use Rattle.media.specs.Answers.{headSeen}
 use Rattle.records.proofs.Kept.{rule-kept}
 use Rattle.playlist.specs.Calls.{writtenText}
 use Rattle.playlist.proofs.Groups.{playlistPieces, written-text}
-use Rattle.playlist.proofs.Rule.{clips-fit, clips-held, tags-fit}
+use Rattle.playlist.proofs.Rule.{clips-fit, tags-fit}
 use lib.ListN.{drop}
 use denote.Ref.{now}
 use Rattle.playlist.proofs.Laying.{Laying, lay-front, lay-fits, lay-put, lay-all}
@@ -51,7 +51,7 @@ head-requires c κs = (rule-kept _ _ _ _ _ _ (c .before .before .before .before 
 clips-requires : tie.Need-clips-requires
 clips-requires c κs =
     let r = start1 (c .before) .pre .0 in
-    (clips-held _ _ _ _ _ _ r, (clips-fit _ _ _ _ _ _ r, (tags-fit _ _ _ _ _ _ r, lay-fits (after-head (c .before)))))
+    (clips-fit _ _ _ _ _ _ r, (tags-fit _ _ _ _ _ _ r, lay-fits (after-head (c .before))))
 
 slice-aggregate-mark-line : tie.Need-slice-aggregate-mark-line
 slice-aggregate-mark-line c = search needs

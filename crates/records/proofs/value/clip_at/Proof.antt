@@ -1,66 +1,29 @@
--- `value::clip_at`: the record of the parts that were read, each as its call ensures. Assumes nothing.
+-- `value::clip_at`: a clip's words alone hold the same clip, as their first (`clip-alone`). Assumes nothing.
+use mathlib.Core.Path.{_≡_, refl, ap, _∙_}
+use mathlib.Core.List.{List}
+use Prim.Native.Nat.{ℕ}
+use denote.Ref.{now}
 use borrow.Author.Needs.{needs}
-use Rattle.media.specs.Assembly.{segment, clip}
-use Rattle.records.specs.Records.{clipAt}
+use Rattle.tables.specs.Table.{listed, clipRecord}
+use Rattle.records.specs.Records.{mapAt, clipAt}
 use Rattle.records.proofs.value.clip_at.Statement.{statement}
 use Rattle.records.proofs.value.clip_at.Tie as tie
 
-clip-span-requires : tie.Need-clip-span-requires
-clip-span-requires c κs = search needs
+-- the list of its words computes
+clip-alone : (t : List ℕ) (k : ℕ) → clipAt (clipRecord t k) 0 ≡ clipAt t k
+unfolding listed mapAt clipAt
+clip-alone t k = refl
 
-title-at-requires : tie.Need-title-at-requires
-title-at-requires c κs = search needs
+clip-words-requires : tie.Need-clip-words-requires
+clip-words-requires c κs = search needs
 
-held-word-requires : tie.Need-held-word-requires
-held-word-requires c κs = search needs
-
-held-word-requires-2 : tie.Need-held-word-requires-2
-held-word-requires-2 c κs = search needs
-
-held-word-requires-3 : tie.Need-held-word-requires-3
-held-word-requires-3 c κs = search needs
-
-range-at-requires : tie.Need-range-at-requires
-range-at-requires c κs = search needs
-
-map-at-requires : tie.Need-map-at-requires
-map-at-requires c κs = search needs
-
-held-word-requires-4 : tie.Need-held-word-requires-4
-held-word-requires-4 c κs = search needs
-
-has-flag-requires : tie.Need-has-flag-requires
-has-flag-requires c κs = search needs
-
-held-word-requires-5 : tie.Need-held-word-requires-5
-held-word-requires-5 c κs = search needs
-
-held-word-requires-6 : tie.Need-held-word-requires-6
-held-word-requires-6 c κs = search needs
+clip-of-requires : tie.Need-clip-of-requires
+clip-of-requires c κs = search needs
 
 returns : tie.Need-returns
-unfolding clipAt
 returns c =
-    rw (← c .before .before .before .before .before .before .before .before .held-word .ensures, ← c .before .before .before .before .before .before .before .held-word2 .ensures, ← c .before .before .before .before .before .before .held-word3 .ensures)
-    (λ i.
-    clip (c .before .before .before .before .before .before .before .before .before .before .clip-span .ensures i)
-    (segment (c .before .before .before .held-word4 .ensures i) (c .before .before .before .before .before .before .before .before .before .title-at .ensures i) (c .before .before .before .before .before .range-at .ensures i) (c .before .before .has-flag .ensures i) (c .before .before .before .before .map-at .ensures i))
-    (c .before .held-word5 .ensures i)
-    (c .held-word6 .ensures i))
+    let a = c .before .before .before .before .args in
+    c .clip-of .ensures ∙ ap (λ (words : List ℕ). clipAt words 0) (c .before .before .clip-words .ensures) ∙ clip-alone (now (a .clips)) (a .k)
 
 pub clip-at-spec : {M : Type 1} → statement M
-clip-at-spec =
-    tie.close
-    (tie.spec
-    clip-span-requires
-    title-at-requires
-    held-word-requires
-    held-word-requires-2
-    held-word-requires-3
-    range-at-requires
-    map-at-requires
-    held-word-requires-4
-    has-flag-requires
-    held-word-requires-5
-    held-word-requires-6
-    returns)
+clip-at-spec = tie.close (tie.spec clip-words-requires clip-of-requires returns)

@@ -6,15 +6,15 @@ use Rattle.records.specs.Records.{mapAt}
 use Rattle.records.proofs.value.map_at.Statement.{statement}
 use Rattle.records.proofs.value.map_at.Tie as tie
 
-held-word-requires : tie.Need-held-word-requires
-held-word-requires c κs = search needs
+element-copy-out-flags : tie.Need-element-copy-out-flags
+element-copy-out-flags c = search needs
 
 has-flag-requires : tie.Need-has-flag-requires
 has-flag-requires c κs = search needs
 
 returns : tie.Need-returns
 unfolding mapAt
-returns c = rw (← c .before .before .held-word .ensures, sym (c .before .has-flag .ensures) ∙ not-true _ (c .if1 .taken))
+returns c = rw (sym (c .before .has-flag .ensures) ∙ not-true _ (c .if1 .taken))
 
 clip-span-requires : tie.Need-clip-span-requires
 clip-span-requires c κs = search needs
@@ -22,11 +22,11 @@ clip-span-requires c κs = search needs
 clip-span-requires-2 : tie.Need-clip-span-requires-2
 clip-span-requires-2 c κs = search needs
 
-held-word-requires-2 : tie.Need-held-word-requires-2
-held-word-requires-2 c κs = search needs
+element-copy-out-length : tie.Need-element-copy-out-length
+element-copy-out-length c = search needs
 
-held-word-requires-3 : tie.Need-held-word-requires-3
-held-word-requires-3 c κs = search needs
+element-copy-out-offset : tie.Need-element-copy-out-offset
+element-copy-out-offset c = search needs
 
 range-at-requires : tie.Need-range-at-requires
 range-at-requires c κs = search needs
@@ -34,19 +34,18 @@ range-at-requires c κs = search needs
 returns-2 : tie.Need-returns-2
 unfolding mapAt
 returns-2 c =
-    rw (← c .before .before .before .before .before .before .before .held-word .ensures, sym (c .before .before .before .before .before .before .has-flag .ensures) ∙ not-false _ (c .before .before .before .before .before .if1 .left), ← c .before .before .held-word2 .ensures, ← c .before .held-word3 .ensures)
-    (rw (c .range-at .ensures, c .before .before .before .before .clip-span .ensures, c .before .before .before .clip-span2 .ensures))
+    rw (sym (c .before .before .before .before .before .before .has-flag .ensures) ∙ not-false _ (c .before .before .before .before .before .if1 .left), c .range-at .ensures, c .before .before .before .before .clip-span .ensures, c .before .before .before .clip-span2 .ensures)
 
 pub map-at-spec : {M : Type 1} → statement M
 map-at-spec =
     tie.close
     (tie.spec
-    held-word-requires
+    element-copy-out-flags
     has-flag-requires
     returns
     clip-span-requires
     clip-span-requires-2
-    held-word-requires-2
-    held-word-requires-3
+    element-copy-out-length
+    element-copy-out-offset
     range-at-requires
     returns-2)

@@ -10,7 +10,7 @@ use lib.ListN.{length, drop, length-set, drop-of-length-le}
 use lib.Seq.{sets}
 use denote.Ref.{now}
 use Rattle.tables.specs.Table.{fits}
-use Rattle.tables.proofs.Records.{fits-next, fits-not, fits-words}
+use Rattle.tables.proofs.Records.{fits-next, fits-not, next-held}
 use Rattle.tables.proofs.Sets.{sets-on, stored-fits, stored-not}
 use Rattle.tables.proofs.record.store.Statement.{statement}
 use Rattle.tables.proofs.record.store.Tie as tie
@@ -27,7 +27,7 @@ room : (c : tie.Else1 Inv-loop μ-loop) → let a = c .before .args in fits (a .
 room c = let a = c .before .args in fits-next (a .width) (a .index) (now (a .words)) (c .before .pre .0) (c .if1 .left)
 
 within : (c : tie.Else1 Inv-loop μ-loop) → let a = c .before .args in (a .index + 1) * a .width ≤ length (now (a .words))
-within c = let a = c .before .args in fits-words (a .width) (a .index + 1) (now (a .words)) (room c)
+within c = let a = c .before .args in next-held (a .width) (a .index) (now (a .words)) (c .before .pre .0) (c .if1 .left)
 
 div-if1 : tie.Need-div-if1 Inv-loop μ-loop
 div-if1 c = search needs

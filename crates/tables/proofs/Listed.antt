@@ -1,14 +1,15 @@
--- Records listed from one index on: how many there are, the first, the last, the k-th, some and then others, a run of them. Over any record.
+-- Entries listed from one index on: how many there are, the first, some and then others, a run of them. Over any entry. And a list of words that is filled with them.
 -- Assumes nothing.
 use mathlib.Core.Path.{_≡_, refl, ap, _∙_}
-use mathlib.Core.List.{[], _∷_, _++_, map}
+use mathlib.Core.List.{List, [], _∷_, _++_, append-nil}
 use Prim.Native.Nat.{ℕ, zero, suc, _+_, _-_, _≤_, _<_}
-use native.Mathlib.Nat.{zero-add, add-zero}
+use native.Mathlib.Nat.{zero-add, add-zero, sub-zero}
 use native.Mathlib.Numerals.{add-one}
 use native.Mathlib.Omega.{arith}
-use lib.ListN.{length, take, drop, getD}
-use lib.Seq.{take-at, drop-at, getD-at}
-use Rattle.records.specs.Records.{listed}
+use lib.ListN.{set, length, take, drop, drop-of-length-le}
+use lib.Seq.{sets, take-at, drop-at}
+use Rattle.tables.specs.Table.{listed}
+use Rattle.tables.proofs.Sets.{sets-over}
 
 module _ {A : Type 0} (at : ℕ → A) where
   pub listed-none : (k : ℕ) → listed at k 0 ≡ []
@@ -21,15 +22,11 @@ module _ {A : Type 0} (at : ℕ → A) where
   listed-length k (suc n) = ap suc (listed-length (suc k) n)
 
   -- the first, then those after it
-  pub listed-suc : (k n : ℕ) → listed at k (suc n) ≡ at k ∷ listed at (suc k) n
-  unfolding listed
-  listed-suc k n = refl
-
   pub listed-first : (k n : ℕ) → listed at k (n + 1) ≡ at k ∷ listed at (k + 1) n
   unfolding listed
   listed-first k n = rw (add-one n, add-one k)
 
-  -- what is left of n from record k on: record k, then what is left from the next one on
+  -- what is left of n from entry k on: entry k, then what is left from the next one on
   pub listed-left : (k n : ℕ) → k < n → listed at k (n - k) ≡ at k ∷ listed at (k + 1) (n - (k + 1))
   listed-left k n h =
       let e : n - k ≡ n - (k + 1) + 1 = omega arith in
@@ -56,11 +53,6 @@ module _ {A : Type 0} (at : ℕ → A) where
       let e : m ≡ f + (m - f) = omega arith in
       ap (λ (n : ℕ). listed at 0 n) e ∙ listed-append 0 f (m - f) ∙ rw (zero-add f)
 
-  -- those before the last, then the last
-  pub listed-last : (k : ℕ) → listed at 0 (k + 1) ≡ listed at 0 k ++ (at k ∷ [])
-  unfolding listed
-  listed-last k = listed-append 0 k 1 ∙ rw (zero-add k)
-
   pub listed-drop : (f m : ℕ) → f ≤ m → drop f (listed at 0 m) ≡ listed at f (m - f)
   listed-drop f m h = rw (listed-split f m h) (drop-at (listed at 0 f) (listed at f (m - f)) f (listed-length 0 f))
 
@@ -73,19 +65,24 @@ module _ {A : Type 0} (at : ℕ → A) where
       let e : m - f ≡ n + (m - f - n) = omega arith in
       rw (listed-drop f m (omega arith), e) (listed-take f n (m - f - n))
 
-  -- the k-th
-  pub listed-at : (k n : ℕ) (d : A) → k < n → getD (listed at 0 n) k d ≡ at k
-  listed-at k n d h =
-      rw (listed-split k n (omega arith), listed-left k n h) (getD-at (listed at 0 k) (at k) (listed at (k + 1) (n - (k + 1))) d k (listed-length 0 k))
+-- a list of words that is filled one by one: those that are left, laid from here on, make the whole
+pub record Filling (at : ℕ → ℕ) (n : ℕ) (l : List ℕ) (k : ℕ) : Type 0 where
+  pub turn : k ≤ n
+  pub laid : sets l k (listed at k (n - k)) ≡ listed at 0 n
 
--- what a function makes of each
-pub listed-map : {A B : Type 0} (f : A → B) (at : ℕ → A) (k n : ℕ) → map f (listed at k n) ≡ listed (λ j. f (at j)) k n
-unfolding listed
-listed-map f at k zero = refl
-listed-map f at k (suc n) = rw (listed-map f at (suc k) n)
+module _ (at : ℕ → ℕ) (n : ℕ) (l : List ℕ) where
+  -- nothing is laid yet
+  pub filling-none : length l ≡ n → Filling at n l 0
+  filling-none e =
+      let long : length (listed at 0 n) ≡ n = listed-length at 0 n in
+      let over : drop (length (listed at 0 n)) l ≡ [] = drop-of-length-le l {i = length (listed at 0 n)} (omega arith) in
+      record { turn = omega arith; laid = rw (sub-zero n, sets-over l (listed at 0 n) (omega arith), over) (append-nil (listed at 0 n)) }
 
--- records that agree make lists that agree
-pub listed-same : {A : Type 0} (at bt : ℕ → A) (k n : ℕ) → ((j : ℕ) → k ≤ j → j < k + n → at j ≡ bt j) → listed at k n ≡ listed bt k n
-unfolding listed
-listed-same at bt k zero h = refl
-listed-same at bt k (suc n) h = rw (h k (omega arith) (omega arith), listed-same at bt (suc k) n (λ j l m. h j (omega arith) (omega arith)))
+  module _ (k : ℕ) (h : Filling at n l k) where
+    -- one more
+    pub filling-more : (a : ℕ) → a ≡ at k → k < n → Filling at n (set l k a) (k + 1)
+    filling-more a e b = record { turn = omega arith; laid = rw (e, add-one k) (rw (listed-left at k n b, add-one k) at (h .laid)) }
+
+    -- all are laid
+    pub filling-end : n ≤ k → l ≡ listed at 0 n
+    filling-end b = rw (listed-over at k n b) at (h .laid)
