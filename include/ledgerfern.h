@@ -51,7 +51,7 @@ enum ledgerfern_refusal {
 #define LEDGERFERN_RATE_LIMIT 90000                           /* the largest rate, in ticks a second; the least is 1 */
 #define LEDGERFERN_TURN_LIMIT 999999                          /* the last turn; the first is 0 */
 
-/* Tables of so many records hold what any text within the limit has. */
+/* Tables of so many records hold what any text within the limit has: `never-short`, crates/media/proofs/Most.antt. */
 #define LEDGERFERN_MOST_CLIPS 32765
 #define LEDGERFERN_MOST_TAGS 9361
 

@@ -22,3 +22,5 @@ pub mod Only
 pub mod ThrownOut
 -- what was stored is read back
 pub mod ReadBack
+-- tables of the most records are never too short
+pub mod Most

@@ -1,20 +1,20 @@
 -- What the reader guarantees of the tag that a step takes: numbers fit, lengths are in range, each span is a part of the text whose bytes are of the right kind,
 -- between two edges; and an unknown tag is read by no rule of a known one. Assumes nothing.
-use Prim.Native.Nat.{ℕ, zero, suc, _+_, _-_, _<_}
-use mathlib.Core.Path.{_≡_, refl, sym}
-use mathlib.Core.Bool.{Bool, true, false, cond, not, _&&_, _||_, false≢true}
+use Prim.Native.Nat.{ℕ, zero, suc, _-_, _<_}
+use mathlib.Core.Path.{_≡_, refl}
+use mathlib.Core.Bool.{true, _&&_}
 use mathlib.Core.List.{List, [], _∷_}
 use native.Mathlib.Omega.{arith}
-use lib.Dec.{ltb, eqb}
+use lib.Dec.{ltb}
 use lib.ListN.{length, take, drop, getD}
-use lib.Seq.{drop-cons, drop-drop}
 use borrow.Author.Tests.{ltb-true}
 use Rattle.text.specs.Why.{Why, missingByte}
-use Rattle.text.specs.Nom.{fail, ok, Parser, Span, bytes, isOneOf, isNoneOf, run, runEnd, orElse, tag, map, preceded}
+use Rattle.text.specs.Nom.{fail, ok, Parser, Span, bytes, isOneOf, isNoneOf, runEnd, orElse, tag, map, preceded}
 use Rattle.text.specs.Util.{number, numberOrZero, byteRangeVal}
 use Rattle.text.specs.BasicTags.{ExtTag, extTag, playlistType}
 use Rattle.text.proofs.Ahead.{Stops}
-use Rattle.text.proofs.Laws.{and-left, run-step, run-from}
+use Rattle.text.proofs.Laws.{and-left}
+use Rattle.text.proofs.Blanks.{NotBlank, not-blank-after, first-byte}
 use Rattle.attributes.specs.ExtMap.{extmap}
 use Rattle.lengths.specs.Duration.{durationTitleTag}
 use Rattle.tags.specs.Tags.{HeadTag, version, targetDuration, mediaSequence, discontinuitySequence, typed, iFramesOnly, independentSegments, endList, ClipTag, timed, ranged, discontinuity, mapped, start, key, programDateTime, dateRange, Tag, ofHead, ofClip, unknown, comment, uri, leftOut, marks, playlistTag, segmentTag, unknownTag, commentLine, uriLine, otherTag, mediaSegmentTag, mediaPlaylistTag, Taken, took, step}
@@ -24,28 +24,10 @@ use Rattle.roundtrip.proofs.Edges.{Edge, one-of-ends}
 use Rattle.roundtrip.proofs.Gives.{Gives, gives-done, gives-when, gives-alt, gives-bind, Shows, Ends, Cut, Small, gives-tag, gives-number, gives-number-or-zero, gives-range}
 use Rattle.roundtrip.proofs.Values.{SoundType, gives-type, SoundExt, gives-ext, gives-comment, SoundExtinf, gives-extinf, SoundMap, gives-map, gives-line, SoundLine}
 
--- not at a blank, which a step skips
-abbrev pub NotBlank : List ℕ → ℕ → Type 0
-NotBlank text at = Stops (isOneOf (bytes " \t\r\n")) (drop at text)
-
 stops-take : (n : ℕ) (s : List ℕ) → Stops (isOneOf (bytes " \t\r\n")) s → Stops (isOneOf (bytes " \t\r\n")) (take n s)
 stops-take zero s h = tt
 stops-take (suc n) [] h = tt
 stops-take (suc n) (x ∷ s) h = h
-
--- where a run has ended, it does not go on
-run-stops : (p : ℕ → Bool) (s : List ℕ) → Stops p (drop (run p s) s)
-unfolding run
-run-stops p [] = tt
-run-stops p (x ∷ s) = go (p x) refl (run-stops p s)
-  where
-    go : (b : Bool) → p x ≡ b → Stops p (drop (run p s) s) → Stops p (drop (cond b (suc (run p s)) 0) (x ∷ s))
-    go true e ih = ih
-    go false e ih = e
-
-pub run-ends : (p : ℕ → Bool) (text : List ℕ) (at : ℕ) → Stops p (drop (runEnd p text at) text)
-unfolding runEnd
-run-ends p text at = rw (← drop-drop (run p (drop at text)) at text) (run-stops p (drop at text))
 
 module _ (text : List ℕ) where
   abbrev pub SoundHead : HeadTag → Type 0
@@ -129,25 +111,13 @@ module _ (text : List ℕ) where
     gives-comment-line = gives-bind (Ends text) (Cut text Sound) _ _ (gives-comment text at) (λ c n h. gives-done (Cut text Sound) (comment c) n (tt, h))
 
     module _ (from : Edge text at) (not-blank : NotBlank text at) (there : at < length text) where
-      -- a byte that is no blank ends no line
-      first-byte : at < runEnd (isNoneOf (bytes "\r\n")) text at
-      first-byte =
-          let b = getD text at 0 in
-          let q = rw (drop-cons text at 0 there) at not-blank in
-          omega (arith, run-step (isNoneOf (bytes "\r\n")) text at there (go (eqb 32 b) (eqb 9 b) (eqb 13 b) (eqb 10 b) q), run-from (isNoneOf (bytes "\r\n")) text (at + 1))
-        where
-          go : (w x y z : Bool) → (w || (x || (y || (z || false)))) ≡ false → not (y || (z || false)) ≡ true
-          go true x y z e = absurd (false≢true (sym e))
-          go false true y z e = absurd (false≢true (sym e))
-          go false false true z e = absurd (false≢true (sym e))
-          go false false false z e = rw e
-
-      line-sound : (s : Span) → SoundLine text at from first-byte s → Sound (uri s)
+      line-sound : (s : Span) → SoundLine text at from (first-byte text at not-blank there) s → Sound (uri s)
       line-sound s h = (h .1, rw (h .0) (stops-take (runEnd (isNoneOf (bytes "\r\n")) text at - at) (drop at text) not-blank))
 
       gives-uri-line : Gives (Cut text Sound) (uriLine text at)
       gives-uri-line =
-          gives-bind (Cut text (SoundLine text at from first-byte)) (Cut text Sound) _ _ (gives-line text at from first-byte) (λ s n h.
+          let some-byte = first-byte text at not-blank there in
+          gives-bind (Cut text (SoundLine text at from some-byte)) (Cut text Sound) _ _ (gives-line text at from some-byte) (λ s n h.
           gives-done (Cut text Sound) (uri s) n (line-sound s (h .0), h .1))
 
       gives-media-segment-tag : (why : Why) → playlistTag text at ≡ fail why → Gives (Cut text Sound) (mediaSegmentTag text at)
@@ -183,4 +153,4 @@ module _ (text : List ℕ) where
   gives-step at from =
       gives-bind (Cut text (Sound at)) (λ t n. SoundTaken t × Here n) _ _ (gives-media-playlist-tag at (from .0) (from .1)) (λ t n h.
       gives-done (λ t n. SoundTaken t × Here n) (took at t) (runEnd (isOneOf (bytes " \t\r\n")) text n)
-      ((h .0, from), (one-of-ends text n (bytes " \t\r\n") refl (h .1), run-ends (isOneOf (bytes " \t\r\n")) text n)))
+      ((h .0, from), (one-of-ends text n (bytes " \t\r\n") refl (h .1), not-blank-after text n)))

@@ -7,8 +7,9 @@ use native.Mathlib.Omega.{arith}
 use lib.Dec.{leb, eqb}
 use lib.ListN.{length}
 use borrow.Author.Tests.{leb-true, eqb-true}
-use Rattle.text.specs.Nom.{bytes, isOneOf, tagged}
+use Rattle.text.specs.Nom.{bytes, tagged}
 use Rattle.text.specs.Utf8.{utf8End}
+use Rattle.text.proofs.Blanks.{not-blank-after}
 use Rattle.tables.specs.Refusal.{given, textTooLong, notUtf8, noHeader}
 use Rattle.tables.proofs.Refusals.{front-or}
 use Rattle.verdict.specs.Calls.{textLimit, header, admitted}
@@ -17,7 +18,7 @@ use Rattle.media.specs.Calls.{firstStep, stepsOf}
 use Rattle.records.proofs.Back.{All}
 use Rattle.roundtrip.proofs.Edges.{tag-ends, one-of-ends}
 use Rattle.roundtrip.proofs.Gives.{many-gives}
-use Rattle.roundtrip.proofs.Sound.{run-ends, Here, SoundTaken, gives-step}
+use Rattle.roundtrip.proofs.Sound.{Here, SoundTaken, gives-step}
 
 -- what 1, 2 and 3 let through
 pub record Admitted (text : List ℕ) : Type 0 where
@@ -37,7 +38,7 @@ module _ (text : List ℕ) (admits : admitted text ≡ given tt) where
   first-here : Here text (firstStep text)
   unfolding firstStep
   first-here =
-      (one-of-ends text 7 (bytes " \t\r\n") refl (tag-ends text 0 header (omega arith) (omega arith) (admitted-text .begins-so)), run-ends (isOneOf (bytes " \t\r\n")) text 7)
+      (one-of-ends text 7 (bytes " \t\r\n") refl (tag-ends text 0 header (omega arith) (omega arith) (admitted-text .begins-so)), not-blank-after text 7)
 
   pub all-sound : All (SoundTaken text) (stepsOf text)
   unfolding stepsOf

@@ -15,7 +15,7 @@ use Rattle.text.specs.Why.{otherText, nameEmpty, missingByte}
 use Rattle.text.specs.Nom.{Res, Parser, Span, span, bytes, isNoneOf, begins, tagged, afterTag, run, runEnd, spanOr, orElse, tag, map, preceded}
 use Rattle.text.specs.Util.{number, numberOrZero, byteRangeVal}
 use Rattle.text.specs.BasicTags.{ExtTag, ext, extTag, playlistType}
-use Rattle.text.proofs.Ahead.{Every, Stops, tagged-ahead, after-ahead, after-not}
+use Rattle.text.proofs.Ahead.{Every, Stops, run-ends, tagged-ahead, after-ahead, after-not}
 use Rattle.text.proofs.Laws.{and-left, and-right, run-from}
 use Rattle.attributes.specs.ExtMap.{extmap}
 use Rattle.lengths.specs.Duration.{durationTitleTag}
@@ -25,7 +25,7 @@ use Rattle.playlist.specs.Lines.{unknownLine, lineBytes}
 use Rattle.roundtrip.proofs.Said.{Some, Clean}
 use Rattle.roundtrip.proofs.Gives.{Gives, gives-done, gives-when, gives-bind, Shows}
 use Rattle.roundtrip.proofs.Values.{SoundExt}
-use Rattle.roundtrip.proofs.Sound.{run-ends, Unread}
+use Rattle.roundtrip.proofs.Sound.{Unread}
 use Rattle.roundtrip.proofs.Alike.{Failed, alt-failed, failed-alt, lineByte, Breaks, every, begins-before, begins-split, OnLine, tagged-line, alike-number, alike-number-or-zero, alike-range, alike-type, mark-failed, alike-mark, alike-after}
 
 abbrev nameByte : ℕ → Bool

@@ -8,6 +8,8 @@ pub mod Begins
 pub mod Takes
 -- which alternative took a tag
 pub mod Numbered
+-- the fewest bytes of a URI and of an unknown tag
+pub mod Least
 -- which lines are taken at once, by how they begin
 pub mod MostLines
 -- a step with more text before it

@@ -47,6 +47,20 @@ run-every p [] [] h k = refl
 run-every p [] (x ∷ xs) h k = rw k
 run-every p (x ∷ b) xs h k = rw (h .0) (ap suc (run-every p b xs (h .1) k))
 
+-- where a run has ended, it does not go on
+run-stops : (p : ℕ → Bool) (s : List ℕ) → Stops p (drop (run p s) s)
+unfolding run
+run-stops p [] = tt
+run-stops p (x ∷ s) = go (p x) refl (run-stops p s)
+  where
+    go : (b : Bool) → p x ≡ b → Stops p (drop (run p s) s) → Stops p (drop (cond b (suc (run p s)) 0) (x ∷ s))
+    go true e ih = ih
+    go false e ih = e
+
+pub run-ends : (p : ℕ → Bool) (text : List ℕ) (at : ℕ) → Stops p (drop (runEnd p text at) text)
+unfolding runEnd
+run-ends p text at = rw (← drop-drop (run p (drop at text)) at text) (run-stops p (drop at text))
+
 -- the value of digits, whatever follows them
 pub decimal-every : (b xs : List ℕ) (acc : ℕ) → Every isDigit b → Stops isDigit xs → decimal acc (b ++ xs) ≡ decimal acc b
 unfolding decimal Every
