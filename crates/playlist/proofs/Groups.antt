@@ -14,23 +14,16 @@ use Rattle.tables.specs.Table.{listed}
 use Rattle.tables.proofs.Listed.{listed-run}
 use Rattle.records.specs.Records.{clipAt, tagAt, clipsAt, tagsAt}
 use Rattle.records.specs.Same.{shown}
-use Rattle.playlist.specs.Lines.{Line, headerLine, versionLine, independentSegmentsLine, targetDurationLine, mediaSequenceLine}
+use Rattle.playlist.specs.Lines.{headerLine, versionLine, independentSegmentsLine, targetDurationLine, mediaSequenceLine}
 use Rattle.playlist.specs.Lines.{discontinuitySequenceLine, playlistTypeLine, iFramesOnlyLine, byteRangeLine, discontinuityLine, extinfLine, uriLine, endListLine}
 use Rattle.playlist.specs.Lines.{lineBytes, lineIf, lineWhere, lineUnlessZero, typeText, mapLineOf, tagLineOf, titleText}
-use Rattle.playlist.specs.Lines.{headLines, clipLines, clipsLines, endLines, playlistLines, playlistText}
+use Rattle.playlist.specs.Lines.{restLines, headLines, clipLines, clipsLines, endLines, playlistLines, playlistText}
 use Rattle.playlist.specs.Calls.{writtenText}
 use Rattle.playlist.proofs.Laying.{joined}
 use Rattle.playlist.proofs.Text.{one-line, more-lines, lines-append, line-where, line-unless-zero}
 
 -- ---- a head
 -- its lines behind the target
-abbrev pub restLines : List ℕ → Head → List Line
-restLines text (head v d m c p e i n) =
-    lineUnlessZero mediaSequenceLine m
-    ++ (lineUnlessZero discontinuitySequenceLine c
-    ++ (lineIf (λ t. playlistTypeLine (typeText text t)) p
-    ++ lineWhere iFramesOnlyLine i))
-
 abbrev pub restPieces : List ℕ → Head → List (List ℕ)
 restPieces text (head v d m c p e i n) =
     cond (eqb m 0) [] (lineBytes (mediaSequenceLine m))

@@ -96,6 +96,14 @@ typeText text event = bytes "EVENT"
 typeText text vod = bytes "VOD"
 typeText text (other s) = shown text s
 
+-- MediaPlaylist::write_to from if self.media_sequence != 0 to if self.i_frames_only: the lines behind the target
+abbrev pub restLines : List ℕ → Head → List Line
+restLines text (head v d m c p e i n) =
+    lineUnlessZero mediaSequenceLine m
+    ++ (lineUnlessZero discontinuitySequenceLine c
+    ++ (lineIf (λ t. playlistTypeLine (typeText text t)) p
+    ++ lineWhere iFramesOnlyLine i))
+
 -- MediaPlaylist::write_to up to the segments
 unfoldable pub headLines : List ℕ → Head → List Line
 headLines text (head v d m c p e i n) =
@@ -103,10 +111,7 @@ headLines text (head v d m c p e i n) =
     ++ (lineIf versionLine v
     ++ (lineWhere independentSegmentsLine n
     ++ ((targetDurationLine d ∷ [])
-    ++ (lineUnlessZero mediaSequenceLine m
-    ++ (lineUnlessZero discontinuitySequenceLine c
-    ++ (lineIf (λ t. playlistTypeLine (typeText text t)) p
-    ++ lineWhere iFramesOnlyLine i))))))
+    ++ restLines text (head v d m c p e i n))))
 
 abbrev pub mapLineOf : List ℕ → Map → Line
 mapLineOf text (extMap u r l) = mapLine (shown text u) r

@@ -6,18 +6,18 @@ use media::state::Clip;
 use records::value;
 ghost use mathlib.Core.Path.{_≡_};
 ghost use mathlib.Core.Bool.{true};
-ghost use mathlib.Core.List.{_++_, map};
+ghost use mathlib.Core.List.{map};
 ghost use Prim.Native.Nat.{ℕ, _+_, _^_, _≤_, _<_};
 ghost use lib.ListN.{length};
 ghost use lib.Seq.{sets};
 ghost use Rattle.text.specs.Lines.{unlines};
 ghost use Rattle.tables.specs.Layout as layout;
 ghost use Rattle.tables.specs.Table.{listed, clipWord};
-ghost use Rattle.media.specs.Answers.{headTypeOf, headSeen, clipSeen};
+ghost use Rattle.media.specs.Answers.{headSeen, clipSeen};
 ghost use Rattle.records.specs.Records.{tagAt, clipAt, clipsAt, tagsAt};
 ghost use Rattle.records.specs.Rule9.{headFits, keepsRule};
 ghost use Rattle.playlist.specs.Fits.{tagFits, clipFits};
-ghost use Rattle.playlist.specs.Lines.{mediaSequenceLine, discontinuitySequenceLine, playlistTypeLine, iFramesOnlyLine, lineBytes, lineIf, lineWhere, lineUnlessZero, typeText, tagLineOf, headLines, clipLines, clipsLines};
+ghost use Rattle.playlist.specs.Lines.{lineBytes, restLines, tagLineOf, headLines, clipLines, clipsLines};
 ghost use Rattle.playlist.specs.Calls.{writtenText};
 
 // ---- the head
@@ -25,8 +25,8 @@ ghost use Rattle.playlist.specs.Calls.{writtenText};
 // Its lines behind the target: the sequence numbers, the type, I-frames only. A place is named by what begins there.
 fn head_rest(out: &mut [u8], at: usize, text: &[u8], h: Head) -> usize
     requires { ⌜ headFits (now text) (headSeen h) ≡ true ⌝ }
-    requires { ⌜ at + length (unlines lineBytes (lineUnlessZero mediaSequenceLine (h .«media_sequence») ++ (lineUnlessZero discontinuitySequenceLine (h .«discontinuity_sequence») ++ (lineIf (λ t. playlistTypeLine (typeText (now text) t)) (headTypeOf (h .«playlist_type»)) ++ lineWhere iFramesOnlyLine (h .«i_frames_only»))))) ≤ length (now out) ⌝ }
-    ensures { λ r. ⌜ (r ≡ at + length (unlines lineBytes (lineUnlessZero mediaSequenceLine (h .«media_sequence») ++ (lineUnlessZero discontinuitySequenceLine (h .«discontinuity_sequence») ++ (lineIf (λ t. playlistTypeLine (typeText (now (text .entry)) t)) (headTypeOf (h .«playlist_type»)) ++ lineWhere iFramesOnlyLine (h .«i_frames_only»)))))) × (now (out .exit) ≡ sets (now (out .entry)) at (unlines lineBytes (lineUnlessZero mediaSequenceLine (h .«media_sequence») ++ (lineUnlessZero discontinuitySequenceLine (h .«discontinuity_sequence») ++ (lineIf (λ t. playlistTypeLine (typeText (now (text .entry)) t)) (headTypeOf (h .«playlist_type»)) ++ lineWhere iFramesOnlyLine (h .«i_frames_only»)))))) ⌝ }
+    requires { ⌜ at + length (unlines lineBytes (restLines (now text) (headSeen h))) ≤ length (now out) ⌝ }
+    ensures { λ r. ⌜ (r ≡ at + length (unlines lineBytes (restLines (now (text .entry)) (headSeen h)))) × (now (out .exit) ≡ sets (now (out .entry)) at (unlines lineBytes (restLines (now (text .entry)) (headSeen h)))) ⌝ }
 {
     let discontinuity_at = lines::sequence_line(
         out,

@@ -4,8 +4,8 @@ use mathlib.Core.List.{List}
 use Prim.Native.Nat.{ℕ}
 use Rattle.text.specs.Lines.{unlines}
 use Rattle.media.specs.Answers.{headSeen}
-use Rattle.playlist.specs.Lines.{lineBytes}
-use Rattle.playlist.proofs.Groups.{restLines, restPieces, rest-text}
+use Rattle.playlist.specs.Lines.{lineBytes, restLines}
+use Rattle.playlist.proofs.Groups.{restPieces, rest-text}
 use lib.ListN.{drop}
 use denote.Ref.{now}
 use Rattle.playlist.proofs.Laying.{Laying, lay-begin, lay-fits, lay-put, lay-end}
