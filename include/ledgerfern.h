@@ -46,6 +46,7 @@ enum ledgerfern_refusal {
 /* ---- limits ------------------------------------------------------------------------------------------------------- */
 
 #define LEDGERFERN_TEXT_LIMIT 65536
+#define LEDGERFERN_SECOND UINT64_C(1000000000)                /* ns in a second: 10^9 */
 #define LEDGERFERN_LENGTH_LIMIT UINT64_C(1000000000000000000) /* a clip's length in ns is below this: 10^18 */
 #define LEDGERFERN_TOTAL_LIMIT UINT64_C(1000000000000000)     /* the largest total in ns: 10^15 */
 #define LEDGERFERN_RATE_LIMIT 90000                           /* the largest rate, in ticks a second; the least is 1 */

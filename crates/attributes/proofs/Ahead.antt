@@ -7,14 +7,14 @@ use mathlib.Core.Option.{none, some}
 use native.Mathlib.Nat.{add-zero}
 use lib.ListN.{length, drop}
 use Rattle.text.specs.Why.{missingByte}
-use Rattle.text.specs.Nom.{fail, ok, span, bytes, isOneOf, isDigit, isNoneOf, begins, tagged, run, runEnd, decimal, afterTag}
+use Rattle.text.specs.Nom.{fail, ok, span, bytes, isDigit, isNoneOf, begins, tagged, run, runEnd, decimal, afterTag, isSpace}
 use Rattle.text.specs.Many.{many, many0, push}
 use Rattle.text.specs.Util.{parsed, number, ByteRange, range, byteRangeVal, spells}
 use Rattle.text.proofs.Many.{many-stop, many-step}
 use Rattle.text.proofs.Ahead.{Every, EndsLine, on, in-ahead, out-ahead, byte-ahead, run-ahead, tag-ahead, after-ahead, after-not, while1-ahead, peek-ahead, until-ahead, spells-ahead, shows}
-use Rattle.attributes.specs.Pairs.{inQuotes, Pair, pair, quoted, keyValuePair, nextPair, inserted, lastTwo}
+use Rattle.attributes.specs.Pairs.{inQuotes, Pair, pair, quoted, keyValuePair, nextPair, inserted}
 use Rattle.attributes.specs.ExtMap.{extMap, begun, extmap}
-use Rattle.attributes.proofs.Walk.{pairs-fall, map-by-two}
+use Rattle.attributes.proofs.Walk.{pairs-fall, map-by-attrs}
 use Rattle.attributes.proofs.Alone.{begun-alone}
 
 -- a pair as it is written, with its value in quotes
@@ -34,8 +34,8 @@ module _ (text : List ℕ) (at : ℕ) where
   -- no pair begins where a line ends
   pub no-pair-ahead : (xs : List ℕ) → EndsLine xs → drop at text ≡ xs → nextPair text at ≡ fail missingByte
   unfolding nextPair keyValuePair Every
-  no-pair-ahead [] s h = rw (run-ahead text at (isOneOf (bytes " \t")) [] [] tt tt h, add-zero at, out-ahead text at h)
-  no-pair-ahead (x ∷ xs) s h = rw (run-ahead text at (isOneOf (bytes " \t")) [] (x ∷ xs) tt (rw s) h, add-zero at, in-ahead text at x xs h, byte-ahead text at x xs h, s)
+  no-pair-ahead [] s h = rw (run-ahead text at isSpace [] [] tt tt h, add-zero at, out-ahead text at h)
+  no-pair-ahead (x ∷ xs) s h = rw (run-ahead text at isSpace [] (x ∷ xs) tt (rw s) h, add-zero at, in-ahead text at x xs h, byte-ahead text at x xs h, s)
 
 module _ (text : List ℕ) (at : ℕ) (x : ℕ) (name : List ℕ) (y : ℕ) (val xs : List ℕ) (p : isNoneOf (bytes "\r\n") x ≡ true) (en : Every (isNoneOf (bytes "=")) (x ∷ name))
     (ev : Every (isNoneOf (bytes "\"")) (y ∷ val)) (h0 : drop at text ≡ pairBytes (x ∷ name) (y ∷ val) xs) where
@@ -56,12 +56,12 @@ module _ (text : List ℕ) (at : ℕ) (x : ℕ) (name : List ℕ) (y : ℕ) (val
       let b = at + length (x ∷ name) in
       on text (b + 1 + 1 + length (y ∷ val)) (bytes "\"") _ (on text (b + 1 + 1) (y ∷ val) _ (on text (b + 1) (bytes "\"") _ (on text b (bytes "=") _ (on text at (x ∷ name) _ h0))))
 
-  pub next-pair-ahead : isOneOf (bytes " \t") x ≡ false →
+  pub next-pair-ahead : isSpace x ≡ false →
       let b = at + length (x ∷ name) in
       let e = b + 1 + 1 + length (y ∷ val) in
       nextPair text at ≡ ok (pair (span at b) (inQuotes (span (b + 1 + 1) e))) (afterTag (bytes ",") text (e + 1))
   unfolding nextPair Every
-  next-pair-ahead f = rw (run-ahead text at (isOneOf (bytes " \t")) [] _ tt f h0, add-zero at) pair-ahead
+  next-pair-ahead f = rw (run-ahead text at isSpace [] _ tt f h0, add-zero at) pair-ahead
 
 -- ---- the list of a MAP, before the line's end
 no-comma : (xs : List ℕ) → EndsLine xs → begins (bytes ",") xs ≡ false
@@ -115,7 +115,7 @@ module _ (text : List ℕ) (at y : ℕ) (val : List ℕ) (ev : Every (isNoneOf (
       let r : nextPair text at ≡ ok uriPair (to + 1) = rw (← after-not text (to + 1) (bytes ",") xs d (no-comma xs s)) (uri-read xs h) in
       let end = many-stop nextPair text (pairs-fall text) (to + 1) missingByte (no-pair-ahead text (to + 1) xs s d) in
       let m : many0 nextPair text at ≡ many (uriPair ∷ []) (to + 1) = many-step nextPair text (pairs-fall text) at (to + 1) uriPair r ∙ ap (push uriPair) end in
-      map-by-two text at (lastTwo (some (inQuotes (span (uriFrom at) to))) none (to + 1)) (rw (m, is-uri xs h, is-no-range xs h))
+      map-by-attrs text at (some (inQuotes (span (uriFrom at) to))) none (to + 1) (rw (m, is-uri xs h)) (rw (m, is-no-range xs h)) (rw m)
 
   -- URI and BYTERANGE
   module _ (z : ℕ) (rng xs : List ℕ) (er : Every (isNoneOf (bytes "\"")) (z ∷ rng)) (s : EndsLine xs)
@@ -175,8 +175,10 @@ module _ (text : List ℕ) (at y : ℕ) (val : List ℕ) (ev : Every (isNoneOf (
         → (let e = rangeTo at (y ∷ val) (z ∷ rng) in extmap text at ≡ ok (extMap (span (uriFrom at) (uriTo at (y ∷ val))) (some r) (span at (e + 1))) (e + 1))
     unfolding inserted
     map-range-ahead r m e =
-        let two = lastTwo (some (inQuotes (span (uriFrom at) to))) (some (inQuotes (span a b))) (b + 1) in
-        map-by-two text at two (rw (both-read, is-uri (bytes "," ++ rest) h, is-no-range (bytes "," ++ rest) h, is-no-uri, is-range)) ∙ rw (range-read r m (b + 1) e)
+        let first = bytes "," ++ rest in
+        map-by-attrs text at (some (inQuotes (span (uriFrom at) to))) (some (inQuotes (span a b))) (b + 1)
+        (rw (both-read, is-uri first h, is-no-uri)) (rw (both-read, is-no-range first h, is-range)) (rw both-read)
+        ∙ rw (range-read r m (b + 1) e)
 
 -- the premises can be met
 map-back : extmap (bytes "URI=\"m\",BYTERANGE=\"9\"\n") 0 ≡ ok (extMap (span 5 6) (some (range 9 none)) (span 0 21)) 21

@@ -20,7 +20,8 @@ use Rattle.text.proofs.Local.{shift, mvRange, range-local}
 use Rattle.text.proofs.Ahead.{local-ahead}
 use Rattle.attributes.specs.Pairs.{QuotedOrUnquoted, bare, inQuotes, quoted, nextPair, get}
 use Rattle.attributes.specs.ExtMap.{begun, rangeOf}
-use Rattle.attributes.proofs.Source.{quoted-ok, got, next-quoted}
+use Rattle.attributes.proofs.Taken.{quoted-ok, next-quoted}
+use Rattle.attributes.proofs.Source.{got}
 
 -- ---- a rule that no byte from a mark c on has a part in
 abbrev Cut : {A : Type 0} → ℕ → Parser A → Type 0

@@ -4,8 +4,16 @@ pub mod Takes
 pub mod Name
 -- names with commas between them
 pub mod Words
+-- which of some names a part of the text is
+pub mod Found
+-- what is held under some names
+pub mod Laid
+-- and with one pair more
+pub mod Inserted
 -- a list, pair after pair
 pub mod Walk
+-- what a rule has taken
+pub mod Taken
 -- where a list's values come from
 pub mod Source
 -- a byte range in quotes, on its own

@@ -7,7 +7,7 @@ use mathlib.Core.List.{List, [], _∷_, _++_, map as mapList}
 use mathlib.Core.Option.{Option, none, some}
 use lib.ListN.{length}
 use Rattle.text.specs.Why.{missingByte, noUri, uriNotQuoted, rangeNotQuoted}
-use Rattle.text.specs.Nom.{Res, fail, ok, span, bytes, isOneOf, runEnd, afterTag, alt}
+use Rattle.text.specs.Nom.{Res, fail, ok, span, bytes, runEnd, afterTag, alt, isSpace}
 use Rattle.text.specs.Util.{ByteRange, byteRangeVal, spells}
 use Rattle.text.proofs.Local.{Local, shift, still, mvSpan, mvOpt, mvRange, run-moves, after-moves, spells-moves, done-moves, fail-moves, alt-moves, bind-moves, tag-local, is-not-local, peek-local, until-local, many-local, range-local}
 use Rattle.attributes.specs.Pairs.{QuotedOrUnquoted, bare, inQuotes, Pair, pair, quoted, unquoted, keyValuePair, nextPair, keyValuePairs, inserted, get}
@@ -51,7 +51,7 @@ key-value-pair-local pre xs n =
 
 pub next-pair-local : Local mvPair nextPair
 unfolding nextPair
-next-pair-local pre xs n = rw (run-moves pre xs n (isOneOf (bytes " \t"))) (key-value-pair-local pre xs (runEnd (isOneOf (bytes " \t")) xs n))
+next-pair-local pre xs n = rw (run-moves pre xs n isSpace) (key-value-pair-local pre xs (runEnd isSpace xs n))
 
 -- ---- lists
 pub key-value-pairs-local : Local (λ k. mapList (mvPair k)) keyValuePairs

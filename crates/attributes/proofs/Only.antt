@@ -1,10 +1,12 @@
 -- No second answer meets a contract: from what an answer says there is a way back to it, as in text's `Only`. Assumes nothing.
-use mathlib.Core.Path.{_≡_, refl, _∙_, ap}
-use mathlib.Core.Option.{Option, none, some}
 use Prim.Native.Nat.{ℕ}
+use mathlib.Core.Path.{_≡_, refl, sym, _∙_, ap}
+use mathlib.Core.List.{List}
+use mathlib.Core.Option.{Option, none, some}
 use Rattle.text.specs.Nom.{Res, fail, ok}
 use Rattle.text.specs.Util.{ByteRange}
-use Rattle.text.proofs.Only.{Only, only-by, whyBack, why-back, spanBack, byteRangeBack, byte-range-back}
+use Rattle.text.proofs.Only.{Only, only-by, whyBack, why-back, spanBack}
+use Rattle.leaves.proofs.Only.{byteRangeBack, byte-range-back}
 use Rattle.attributes.specs.declared.pair.QuotedOrUnquoted as valueᵈ
 use Rattle.attributes.specs.declared.pair.QuotedOrUnquoted.the-variants as valueᵛ
 use Rattle.attributes.specs.declared.pair.ValueRes.{ValueRes}
@@ -12,21 +14,17 @@ use Rattle.attributes.specs.declared.pair.ValueRes.the-variants as value
 use Rattle.attributes.specs.declared.pair.Pair as pairᵈ
 use Rattle.attributes.specs.declared.pair.PairRes.{PairRes}
 use Rattle.attributes.specs.declared.pair.PairRes.the-variants as pairResᵛ
-use Rattle.attributes.specs.declared.list.NextPair.{NextPair}
-use Rattle.attributes.specs.declared.list.NextPair.the-variants as nextᵛ
-use Rattle.attributes.specs.declared.list.Attr.{Attr}
-use Rattle.attributes.specs.declared.list.Attr.the-variants as attrᵛ
-use Rattle.attributes.specs.declared.list.LastTwo as twoᵈ
+use Rattle.attributes.specs.declared.held.Attr.{Attr}
+use Rattle.attributes.specs.declared.held.Attr.the-variants as attrᵛ
 use Rattle.attributes.specs.declared.ext_map.OptRange.{OptRange}
 use Rattle.attributes.specs.declared.ext_map.OptRange.the-variants as rangeᵛ
-use Rattle.attributes.specs.declared.ext_map.OptRangeRes.{OptRangeRes}
-use Rattle.attributes.specs.declared.ext_map.OptRangeRes.the-variants as rangeResᵛ
 use Rattle.attributes.specs.declared.ext_map.Map as mapᵈ
 use Rattle.attributes.specs.declared.ext_map.MapRes.{MapRes}
 use Rattle.attributes.specs.declared.ext_map.MapRes.the-variants as mapResᵛ
-use Rattle.attributes.specs.Pairs.{QuotedOrUnquoted, bare, inQuotes, Pair, pair, LastTwo, lastTwo}
+use Rattle.attributes.specs.Pairs.{QuotedOrUnquoted, bare, inQuotes, Pair, pair}
+use Rattle.attributes.specs.Held.{LastOfEach}
 use Rattle.attributes.specs.ExtMap.{Map, extMap}
-use Rattle.attributes.specs.Answers.{valueOf, valueRes, pairOf, pairRes, nextPairRes, attrOf, lastTwoSeen, rangeAt, rangeRes, mapOf, mapRes}
+use Rattle.attributes.specs.Answers.{valueOf, valueRes, pairOf, pairRes, attrOf, optRangeOf, mapOf, mapRes}
 
 -- ---- values and pairs
 abbrev pub valueBack : QuotedOrUnquoted → valueᵈ.QuotedOrUnquoted
@@ -72,17 +70,6 @@ pair-res-only = only-by pairRes pairResBack go
     go (pairResᵛ.Ok p n) = ap (λ (q : pairᵈ.Pair). pairResᵛ.Ok q n) (pair-back p)
 
 -- ---- lists
-abbrev nextPairBack : Res Pair → NextPair
-nextPairBack (fail why) = nextᵛ.Fail (whyBack why)
-nextPairBack (ok p n) = nextᵛ.Ok (pairBack p) (record { at = n })
-
-pub next-pair-only : Only nextPairRes
-next-pair-only = only-by nextPairRes nextPairBack go
-  where
-    go : (r : NextPair) → nextPairBack (nextPairRes r) ≡ r
-    go (nextᵛ.Fail why) = ap nextᵛ.Fail (why-back why)
-    go (nextᵛ.Ok p c) = ap (λ (q : pairᵈ.Pair). nextᵛ.Ok q c) (pair-back p)
-
 abbrev attrBack : Option QuotedOrUnquoted → Attr
 attrBack none = attrᵛ.Absent
 attrBack (some v) = attrᵛ.Present (valueBack v)
@@ -94,33 +81,20 @@ attr-back (attrᵛ.Present v) = ap attrᵛ.Present (value-back v)
 pub attr-only : Only attrOf
 attr-only = only-by attrOf attrBack attr-back
 
-abbrev twoBack : LastTwo → twoᵈ.LastTwo
-twoBack (lastTwo x y e) = record { first = attrBack x; second = attrBack y; end = e }
-
-pub last-two-only : Only lastTwoSeen
-last-two-only = only-by lastTwoSeen twoBack (λ h.
-    ap (λ (x : Attr). record { first = x; second = attrBack (attrOf (h .second)); end = h .end }) (attr-back (h .first))
-    ∙ ap (λ (y : Attr). record { first = h .first; second = y; end = h .end }) (attr-back (h .second)))
+-- what a walk answers, and what it leaves in the lent words
+pub last-of-each-only : {text : List ℕ} {at : ℕ} {names held₀ held held′ : List ℕ} {end end′ : ℕ}
+    → LastOfEach text at names held₀ held end → LastOfEach text at names held₀ held′ end′
+    → (end ≡ end′) × (held ≡ held′)
+last-of-each-only p q = (p .ends ∙ sym (q .ends), p .holds ∙ sym (q .holds))
 
 -- ---- maps
 abbrev mapRangeBack : Option ByteRange → OptRange
 mapRangeBack none = rangeᵛ.Absent
 mapRangeBack (some r) = rangeᵛ.Present (byteRangeBack r)
 
-map-range-back : (r : OptRange) → mapRangeBack (rangeAt r) ≡ r
+map-range-back : (r : OptRange) → mapRangeBack (optRangeOf r) ≡ r
 map-range-back rangeᵛ.Absent = refl
 map-range-back (rangeᵛ.Present r) = ap rangeᵛ.Present (byte-range-back r)
-
-abbrev mapRangeResBack : Res (Option ByteRange) → OptRangeRes
-mapRangeResBack (fail why) = rangeResᵛ.Fail (whyBack why)
-mapRangeResBack (ok r n) = rangeResᵛ.Ok (mapRangeBack r)
-
-pub map-range-res-only : (n : ℕ) → Only (λ r. rangeRes r n)
-map-range-res-only n = only-by (λ r. rangeRes r n) mapRangeResBack go
-  where
-    go : (r : OptRangeRes) → mapRangeResBack (rangeRes r n) ≡ r
-    go (rangeResᵛ.Fail why) = ap rangeResᵛ.Fail (why-back why)
-    go (rangeResᵛ.Ok r) = ap rangeResᵛ.Ok (map-range-back r)
 
 abbrev pub mapBack : Map → mapᵈ.Map
 mapBack (extMap uri range list) = record { uri = spanBack uri; «byte_range» = mapRangeBack range; list = spanBack list }

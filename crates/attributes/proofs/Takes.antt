@@ -1,8 +1,8 @@
 -- How far each rule of the attributes goes: the rule written again, with the laws of text's `Takes`. Assumes nothing.
 use native.Mathlib.Omega.{arith}
 use Rattle.text.specs.Why.{missingByte}
-use Rattle.text.specs.Nom.{bytes, tag, optTag, isNot, skip, peekNoneOf, takeUntil, alt}
-use Rattle.text.proofs.Takes.{Takes, takes-tag, takes-opt-tag, takes-is-not, takes-skip, takes-peek, takes-until, takes-done, takes-bind, takes-less, takes-alt, takes-map, takes-many}
+use Rattle.text.specs.Nom.{bytes, tag, optTag, isNot, peekNoneOf, takeUntil, alt, space0}
+use Rattle.text.proofs.Takes.{Takes, takes-tag, takes-opt-tag, takes-is-not, takes-peek, takes-until, takes-done, takes-bind, takes-less, takes-alt, takes-map, takes-many, takes-space0}
 use Rattle.attributes.specs.Pairs.{bare, inQuotes, pair, quoted, unquoted, keyValuePair, nextPair, keyValuePairs}
 
 pub takes-quoted : Takes 3 quoted
@@ -32,7 +32,7 @@ takes-key-value-pair =
 
 pub takes-next-pair : Takes 2 nextPair
 unfolding nextPair
-takes-next-pair = takes-bind 0 2 (skip (bytes " \t")) _ (takes-skip (bytes " \t")) (λ _. takes-key-value-pair)
+takes-next-pair = takes-bind 0 2 space0 _ takes-space0 (λ _. takes-key-value-pair)
 
 pub takes-key-value-pairs : Takes 0 keyValuePairs
 unfolding keyValuePairs

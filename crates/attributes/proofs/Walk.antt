@@ -1,43 +1,67 @@
 -- A list is walked pair by pair: what is left, done from here, is the whole. Assumes nothing.
-use Prim.Native.Nat.{ℕ}
-use mathlib.Core.Path.{_≡_, refl}
-use mathlib.Core.Bool.{Bool, true, false}
-use mathlib.Core.List.{List}
-use mathlib.Core.Option.{Option}
+use Prim.Native.Nat.{ℕ, zero, suc, _+_, _*_, _≤_, _<_}
+use mathlib.Core.Path.{_≡_, refl, _∙_, ap}
+use mathlib.Core.Bool.{Bool, true, false, cond}
+use mathlib.Core.List.{List, [], _∷_, map}
+use mathlib.Core.Option.{Option, none, some}
+use native.Mathlib.Omega.{arith}
+use lib.ListN.{length, getD, replicate}
 use Rattle.text.specs.Why.{Why}
 use Rattle.text.specs.Nom.{Res, fail, ok, Span, span, bytes, bind}
 use Rattle.text.specs.Many.{Many, many, many0, items, stop, collected}
+use Rattle.text.specs.Util.{spells}
 use Rattle.text.proofs.Many.{Falls, many-stop, items-step, stop-step}
 use Rattle.text.proofs.Takes.{takes-falls}
-use Rattle.attributes.specs.Pairs.{QuotedOrUnquoted, Pair, pair, nextPair, keyValuePairs, LastTwo, lastTwo, lastTwoOf, inserted, get, named, besides}
+use Rattle.attributes.specs.Pairs.{QuotedOrUnquoted, Pair, pair, nextPair, keyValuePairs, inserted, get, words, named, besides}
+use Rattle.attributes.specs.Held.{attrWords, laid, attrAt, LastOfEach}
 use Rattle.attributes.specs.ExtMap.{Map, extMap, uriOf, rangeOf, extmap}
-use Rattle.attributes.specs.Answers.{insertedTwo}
+use Rattle.attributes.specs.Inside.Insert.{insertedFrom}
 use Rattle.attributes.proofs.Takes.{takes-next-pair}
-
-abbrev pub firstOf : LastTwo → Option QuotedOrUnquoted
-firstOf (lastTwo x y e) = x
-
-abbrev pub endOf : LastTwo → ℕ
-endOf (lastTwo x y e) = e
+use Rattle.attributes.proofs.Laid.{laid-nothing, laid-at}
+use Rattle.attributes.proofs.Inserted.{inserted-laid}
 
 module _ (text : List ℕ) where
   -- each pair brings the walk nearer to the text's end
   pub pairs-fall : Falls nextPair text
   pairs-fall = takes-falls 1 nextPair takes-next-pair text
 
-  -- ---- two names at once
-  module _ (a b : List ℕ) where
+  -- ---- where it ends
+  pub ends-stop : (at : ℕ) (why : Why) → nextPair text at ≡ fail why → stop (many0 nextPair text at) ≡ at
+  ends-stop at why f = ap stop (many-stop nextPair text pairs-fall at why f)
+
+  pub ends-step : (at n : ℕ) (p : Pair) → nextPair text at ≡ ok p n → stop (many0 nextPair text at) ≡ stop (many0 nextPair text n)
+  ends-step = stop-step nextPair text pairs-fall
+
+  -- ---- names, and what is held under each
+  module _ (names : List (List ℕ)) where
+    -- what is held once these pairs are inserted too
+    unfoldable pub walked : List Pair → List ℕ → List ℕ
+    walked [] held = held
+    walked (p ∷ ps) held = walked ps (insertedFrom text p 0 names held)
+
     -- what the whole walk gives, where so much is held already
-    abbrev pub walked : LastTwo → LastTwo
-    walked (lastTwo x y e) = lastTwo (inserted text a x (items (many0 nextPair text e))) (inserted text b y (items (many0 nextPair text e))) (stop (many0 nextPair text e))
+    abbrev pub heldFrom : ℕ → List ℕ → List ℕ
+    heldFrom at held = walked (items (many0 nextPair text at)) held
 
-    pub walked-stop : (x y : Option QuotedOrUnquoted) (e : ℕ) (why : Why) → nextPair text e ≡ fail why → walked (lastTwo x y e) ≡ lastTwo x y e
-    unfolding inserted
-    walked-stop x y e why f = rw (many-stop nextPair text pairs-fall e why f)
+    pub held-stop : (at : ℕ) (held : List ℕ) (why : Why) → nextPair text at ≡ fail why → heldFrom at held ≡ held
+    unfolding walked
+    held-stop at held why f = rw (many-stop nextPair text pairs-fall at why f)
 
-    pub walked-step : (x y : Option QuotedOrUnquoted) (e n : ℕ) (p : Pair) (h : LastTwo) → nextPair text e ≡ ok p n → h ≡ insertedTwo text a b (lastTwo x y e) p n → walked (lastTwo x y e) ≡ walked h
-    unfolding inserted
-    walked-step x y e n (pair left right) h f q = rw (q, items-step nextPair text pairs-fall e n (pair left right) f, stop-step nextPair text pairs-fall e n (pair left right) f)
+    pub held-step : (at n : ℕ) (p : Pair) (held after : List ℕ) → nextPair text at ≡ ok p n → after ≡ insertedFrom text p 0 names held
+        → heldFrom at held ≡ heldFrom n after
+    unfolding walked
+    held-step at n p held after f q = rw (q, items-step nextPair text pairs-fall at n p f)
+
+    walked-laid : (room : ℕ) (ps : List Pair) (f : List ℕ → Option QuotedOrUnquoted)
+        → walked ps (laid room (map f names)) ≡ laid room (map (λ name. inserted text name (f name) ps) names)
+    unfolding walked inserted
+    walked-laid room [] f = refl
+    walked-laid room (pair left right ∷ ps) f =
+        ap (walked ps) (inserted-laid text left right room names f) ∙ walked-laid room ps (λ name. cond (spells text left name) (some right) (f name))
+
+    -- where nothing is held at first, it is what the list has under each name
+    pub held-all : (at room : ℕ) → heldFrom at (replicate room 0) ≡ laid room (map (λ name. get text name (items (many0 nextPair text at))) names)
+    held-all at room = rw (← laid-nothing room names) (walked-laid room (items (many0 nextPair text at)) (λ _. none))
 
   -- ---- a name besides these
   module _ (names : List (List ℕ)) where
@@ -56,14 +80,41 @@ module _ (text : List ℕ) where
     unfolding besides
     others-step at n left right f e = rw (items-step nextPair text pairs-fall at n (pair left right) f, e)
 
--- ---- a MAP, by the two names that it has a use for
-abbrev pub mapped : LastTwo → List ℕ → ℕ → Res Map
-mapped (lastTwo uri range end) text at = bind (uriOf uri text end) (λ u n. bind (rangeOf range text n) (λ r m. ok (extMap u r (span at end)) m))
+-- ---- attribute number k is what the list has under name number k
+at-name : (f : List ℕ → Option QuotedOrUnquoted) (names : List (List ℕ)) (k : ℕ) → k < length names → getD (map f names) k none ≡ f (getD names k [])
+at-name f [] k h = absurd (omega arith)
+at-name f (w ∷ ws) zero h = refl
+at-name f (w ∷ ws) (suc k) h = at-name f ws k (omega arith)
 
-pub map-by-two : (text : List ℕ) (at : ℕ) (h : LastTwo) → h ≡ lastTwoOf text (bytes "URI") (bytes "BYTERANGE") (many0 nextPair text at) → extmap text at ≡ mapped h text at
-unfolding extmap keyValuePairs
-map-by-two text at h e = rw e (go (many0 nextPair text at))
-  where
-    go : (m : Many Pair) → bind (collected m) (λ attrs to. bind (uriOf (get text (bytes "URI") attrs) text to) (λ u n. bind (rangeOf (get text (bytes "BYTERANGE") attrs) text n) (λ r k. ok (extMap u r (span at to)) k)))
-        ≡ mapped (lastTwoOf text (bytes "URI") (bytes "BYTERANGE") m) text at
-    go (many ps n) = refl
+module _ (text : List ℕ) (at : ℕ) where
+  abbrev pairs : List Pair
+  pairs = items (many0 nextPair text at)
+
+  pub attr-held : {names held₀ held : List ℕ} {end : ℕ} → LastOfEach text at names held₀ held end
+      → (k : ℕ) → k < length (words names) → k * attrWords + attrWords ≤ length held₀
+      → attrAt held k ≡ get text (getD (words names) k []) (items (many0 nextPair text at))
+  attr-held {names} {held₀} e k l h = rw (e .holds) (laid-at (length held₀) k _ h ∙ at-name (λ name. get text name pairs) (words names) k l)
+
+  -- ---- a MAP, by what the list has under its two names
+  abbrev pub mapped : Option QuotedOrUnquoted → Option QuotedOrUnquoted → ℕ → Res Map
+  mapped uri range end = bind (uriOf uri text end) (λ u n. bind (rangeOf range text n) (λ r m. ok (extMap u r (span at end)) m))
+
+  pub map-by-attrs : (uri range : Option QuotedOrUnquoted) (end : ℕ) →
+      let m = many0 nextPair text at in
+      uri ≡ get text (bytes "URI") (items m) → range ≡ get text (bytes "BYTERANGE") (items m) → end ≡ stop m → extmap text at ≡ mapped uri range end
+  unfolding extmap keyValuePairs
+  map-by-attrs uri range end u r e = rw (u, r, e) (go (many0 nextPair text at))
+    where
+      parts : List Pair → ℕ → Res Map
+      parts ps n = mapped (get text (bytes "URI") ps) (get text (bytes "BYTERANGE") ps) n
+
+      go : (m : Many Pair) → bind (collected m) parts ≡ parts (items m) (stop m)
+      go (many ps n) = refl
+
+  -- the names in the code's order
+  pub map-by-held : {held₀ held : List ℕ} {end : ℕ} (uri range : Option QuotedOrUnquoted)
+      → LastOfEach text at (bytes "URI,BYTERANGE") held₀ held end → 2 * attrWords ≤ length held₀
+      → uri ≡ attrAt held 0 → range ≡ attrAt held 1 → extmap text at ≡ mapped uri range end
+  unfolding words
+  map-by-held uri range e h u r =
+      map-by-attrs uri range _ (u ∙ attr-held e 0 (omega arith) (omega arith)) (r ∙ attr-held e 1 (omega arith) (omega arith)) (e .ends)

@@ -4,15 +4,16 @@ use mathlib.Core.Path.{_≡_, refl, sym, _∙_, ap}
 use mathlib.Core.Bool.{Bool, true, false, not, cond}
 use mathlib.Core.List.{List, [], _∷_}
 use native.Mathlib.Omega.{arith}
+use native.Mathlib.Nat.{le-refl}
 use lib.Dec.{eqb, ltb}
 use lib.ListN.{length, take, drop, drop-of-length-le, length-drop}
 use lib.Seq.{drop-drop, take-all}
 use borrow.Author.Tests.{eq-eqb, ne-eqb, eqb-true, eqb-false, ltb-true, ltb-false}
-use Rattle.text.specs.Nom.{Span, bytes, isNoneOf, run, runEnd}
-use Rattle.text.specs.Util.{spells}
-use Rattle.text.proofs.Laws.{run-from}
+use Rattle.text.specs.Nom.{bytes, isNoneOf, run, runEnd, afterTag}
+use Rattle.text.proofs.Laws.{run-from, tagged-past}
 use Rattle.text.proofs.Takes.{went-run, went-within}
-use Rattle.attributes.specs.Pairs.{onto, words, named}
+use Rattle.attributes.specs.Pairs.{onto, words}
+use Rattle.attributes.proofs.Name.{until-there}
 
 -- the two tests for a comma agree
 no-comma : (x : ℕ) → isNoneOf (bytes ",") x ≡ not (eqb x 44)
@@ -52,42 +53,42 @@ word-ends names k e q h =
     let w = went-run names k (isNoneOf (bytes ",")) in
     rw q (run-from (isNoneOf (bytes ",")) names k, went-within names k 0 _ w (omega arith))
 
--- one name after the other, from the place k on: the next ends at e
-module _ (text : List ℕ) (left : Span) (names : List ℕ) (k : ℕ) where
-  pub named-out : length names ≤ k → named text left (words (drop k names)) ≡ false
-  unfolding named words
-  named-out h = rw (drop-of-length-le names h)
+pub words-out : (names : List ℕ) (k : ℕ) → length names ≤ k → words (drop k names) ≡ []
+unfolding words
+words-out names k h = rw (drop-of-length-le names h)
 
-  module _ (e : ℕ) (q : e ≡ runEnd (isNoneOf (bytes ",")) names k) (h : k < length names) where
-    -- the last of them, without a comma
-    words-last : length names ≤ e → words (drop k names) ≡ take (e - k) (drop k names) ∷ []
-    unfolding runEnd
-    words-last l =
-        let s = drop k names in
-        let n : length s ≡ length names - k = length-drop k names in
-        last-word s (omega arith) (omega arith) ∙ ap (λ (t : List ℕ). t ∷ []) (sym (take-all (e - k) s (omega arith)))
+-- one name after the other: that from the place k on ends at e, and the next is at n
+pub words-next : (names : List ℕ) (k e n : ℕ) → e ≡ runEnd (isNoneOf (bytes ",")) names k → n ≡ afterTag (bytes ",") names e → k < length names
+    → words (drop k names) ≡ take (e - k) (drop k names) ∷ words (drop n names)
+unfolding runEnd afterTag
+words-next names k e n q r h = go (ltb e (length names)) refl
+  where
+    s : List ℕ
+    s = drop k names
 
-    words-step : e < length names → words (drop k names) ≡ take (e - k) (drop k names) ∷ words (drop (e + 1) names)
-    unfolding runEnd
-    words-step l =
-        let s = drop k names in
-        let n : length s ≡ length names - k = length-drop k names in
+    long : length s ≡ length names - k
+    long = length-drop k names
+
+    go : (b : Bool) → ltb e (length names) ≡ b → words s ≡ take (e - k) s ∷ words (drop n names)
+    go true g =
+        let l : e < length names = ltb-true e (length names) g in
         let z : e - k ≡ upTo s = omega arith in
-        let m : e + 1 ≡ k + suc (upTo s) = omega arith in
-        rw (z, m) (first-word s (omega arith) ∙ ap (λ (r : List ℕ). take (upTo s) s ∷ words r) (drop-drop (suc (upTo s)) k names))
+        let there = until-there 44 names k e q l in
+        let m : n ≡ e + 1 = rw there at r in
+        let m : n ≡ k + suc (upTo s) = omega arith in
+        rw (z, m) (first-word s (omega (arith, long)) ∙ ap (λ (t : List ℕ). take (upTo s) s ∷ words t) (drop-drop (suc (upTo s)) k names))
+    go false g =
+        let l : length names ≤ e = ltb-false e (length names) g in
+        let m : n ≡ e = rw (tagged-past (bytes ",") names e (omega arith)) at r in
+        let w : take (e - k) s ≡ s = take-all (e - k) s (omega (arith, long)) in
+        rw (m, words-out names e l, w) (last-word s (omega (arith, long)) (omega (arith, long)))
 
-    pub named-here : spells text left (take (e - k) (drop k names)) ≡ true → named text left (words (drop k names)) ≡ true
-    unfolding named
-    named-here f = go (ltb e (length names)) refl
-      where
-        go : (b : Bool) → ltb e (length names) ≡ b → named text left (words (drop k names)) ≡ true
-        go true g = rw (words-step (ltb-true e (length names) g), f)
-        go false g = rw (words-last (ltb-false e (length names) g), f)
-
-    pub named-last : spells text left (take (e - k) (drop k names)) ≡ false → length names ≤ e → named text left (words (drop k names)) ≡ false
-    unfolding named
-    named-last f l = rw (words-last l, f)
-
-    pub named-step : spells text left (take (e - k) (drop k names)) ≡ false → e < length names → named text left (words (drop k names)) ≡ named text left (words (drop (e + 1) names))
-    unfolding named
-    named-step f l = rw (words-step l, f)
+pub words-few : (s : List ℕ) → length (words s) ≤ length s
+unfolding words
+words-few [] = le-refl 0
+words-few (x ∷ s) = go (eqb x 44) (words s) (words-few s)
+  where
+    go : (b : Bool) (ws : List (List ℕ)) → length ws ≤ length s → length (cond b ([] ∷ ws) (onto x ws)) ≤ suc (length s)
+    go true ws h = omega arith
+    go false [] h = omega arith
+    go false (w ∷ ws) h = omega arith

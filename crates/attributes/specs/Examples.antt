@@ -1,13 +1,14 @@
 -- Worked examples, by computation: for each rule a text that it takes and one that it refuses. Assumes nothing.
 use mathlib.Core.Path.{_≡_, refl}
 use mathlib.Core.Bool.{true, false}
-use mathlib.Core.List.{List, [], _∷_}
+use mathlib.Core.List.{[], _∷_, map}
 use mathlib.Core.Option.{none, some}
 use Rattle.text.specs.Why.{otherText, missingByte, noUri, uriNotQuoted, rangeNotQuoted, rangeBad}
 use Rattle.text.specs.Nom.{fail, ok, span, bytes, isDigit, begins, tagged, afterTag, run, runEnd, decimal}
-use Rattle.text.specs.Many.{many0, manyTurns}
+use Rattle.text.specs.Many.{many, many0, manyTurns, items, stop}
 use Rattle.text.specs.Util.{spells, parsed, number, byteRangeVal, range}
 use Rattle.attributes.specs.Pairs.{bare, inQuotes, pair, quoted, unquoted, keyValuePair, nextPair, keyValuePairs, inserted, get, words, named, besides}
+use Rattle.attributes.specs.Held.{laid, attrWord, attrAt}
 use Rattle.attributes.specs.ExtMap.{extMap, extmap}
 
 -- ---- values
@@ -78,6 +79,29 @@ last-holds = refl
 two-words : words (bytes "URI,BYTERANGE") ≡ bytes "URI" ∷ bytes "BYTERANGE" ∷ []
 unfolding words
 two-words = refl
+
+-- five names at once: of two METHODs the last holds, and the list has no KEYFORMAT
+five-names : (let text = bytes "METHOD=AES-128,URI=\"k\",IV=0x1,METHOD=NONE\n" in
+    let m = many0 nextPair text 0 in
+    many (map (λ name. get text name (items m)) (words (bytes "METHOD,URI,IV,KEYFORMAT,KEYFORMATVERSIONS"))) (stop m)
+    ≡ many (some (bare (span 37 41)) ∷ some (inQuotes (span 20 21)) ∷ some (bare (span 26 29)) ∷ none ∷ none ∷ []) 41)
+unfolding many0 manyTurns nextPair keyValuePair quoted unquoted inserted words spells runEnd run tagged afterTag begins
+five-names = refl
+
+-- three words each
+five-held : laid 15 (some (bare (span 37 41)) ∷ some (inQuotes (span 20 21)) ∷ some (bare (span 26 29)) ∷ none ∷ none ∷ []) ≡ 1 ∷ 37 ∷ 41 ∷ 2 ∷ 20 ∷ 21 ∷ 1 ∷ 26 ∷ 29 ∷ 0 ∷ 0 ∷ 0 ∷ 0 ∷ 0 ∷ 0 ∷ []
+unfolding laid
+five-held = refl
+
+-- in four words there is room for one
+one-held : laid 4 (some (bare (span 37 41)) ∷ some (inQuotes (span 20 21)) ∷ []) ≡ 1 ∷ 37 ∷ 41 ∷ 0 ∷ []
+unfolding laid
+one-held = refl
+
+-- each is read back, by its number; one that is not there is absent
+read-back : map (attrAt (1 ∷ 37 ∷ 41 ∷ 2 ∷ 20 ∷ 21 ∷ 0 ∷ 0 ∷ 0 ∷ [])) (0 ∷ 1 ∷ 2 ∷ 3 ∷ []) ≡ some (bare (span 37 41)) ∷ some (inQuotes (span 20 21)) ∷ none ∷ none ∷ []
+unfolding attrWord
+read-back = refl
 
 only-these : besides (bytes "a=1,b=2") (words (bytes "a,b")) (pair (span 0 1) (bare (span 2 3)) ∷ pair (span 4 5) (bare (span 6 7)) ∷ []) ≡ false
 unfolding besides named words spells tagged begins

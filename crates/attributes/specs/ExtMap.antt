@@ -1,11 +1,10 @@
 -- parser.rs, `extmap`, side by side with the Rust. Assumes nothing.
 use Prim.Native.Nat.{ℕ}
-use mathlib.Core.List.{List}
 use mathlib.Core.Option.{Option, none, some}
 use Rattle.text.specs.Why.{noUri, uriNotQuoted, rangeNotQuoted, rangeBad}
 use Rattle.text.specs.Nom.{Res, fail, ok, Parser, Span, span, bytes, place, _>>=_, done}
 use Rattle.text.specs.Util.{ByteRange, byteRangeVal}
-use Rattle.attributes.specs.Pairs.{QuotedOrUnquoted, bare, inQuotes, Pair, keyValuePairs, get}
+use Rattle.attributes.specs.Pairs.{QuotedOrUnquoted, bare, inQuotes, keyValuePairs, get}
 
 -- struct Map { uri: String, byte_range: Option<ByteRange>, other_attributes }, the last as the list's span
 pub data Map : Type 0 where

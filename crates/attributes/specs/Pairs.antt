@@ -1,12 +1,12 @@
 -- parser.rs, "Util": the list of attributes, side by side with the Rust. Assumes nothing.
 use Prim.Native.Nat.{ℕ}
-use mathlib.Core.Bool.{Bool, true, false, not, cond, _||_}
+use mathlib.Core.Bool.{Bool, false, not, cond, _||_}
 use mathlib.Core.List.{List, [], _∷_}
 use mathlib.Core.Option.{Option, none, some}
 use lib.Dec.{eqb}
 use Rattle.text.specs.Why.{missingByte}
-use Rattle.text.specs.Nom.{Parser, Span, bytes, tag, optTag, isNot, skip, peekNoneOf, takeUntil, alt, map, preceded, _>>=_, done}
-use Rattle.text.specs.Many.{Many, many0, items, stop, collected}
+use Rattle.text.specs.Nom.{Parser, Span, bytes, tag, optTag, isNot, peekNoneOf, takeUntil, alt, map, preceded, _>>=_, done, space0}
+use Rattle.text.specs.Many.{many0, collected}
 use Rattle.text.specs.Util.{spells}
 
 -- enum QuotedOrUnquoted { Unquoted(String), Quoted(String) }
@@ -40,7 +40,7 @@ keyValuePair =
 
 -- preceded(space0, key_value_pair)
 unfoldable pub nextPair : Parser Pair
-nextPair = preceded (skip (bytes " \t")) keyValuePair
+nextPair = preceded space0 keyValuePair
 
 -- fn key_value_pairs = fold_many0(preceded(space0, key_value_pair), HashMap::new, insert): the pairs, in order
 unfoldable pub keyValuePairs : Parser (List Pair)
@@ -55,8 +55,7 @@ inserted text name held (pair left right ∷ ps) = inserted text name (cond (spe
 abbrev pub get : List ℕ → List ℕ → List Pair → Option QuotedOrUnquoted
 get text name ps = inserted text name none ps
 
--- ---- is there a name besides these?
--- names that are written one after the other, a comma after each (the last may go without)
+-- ---- names that are written one after the other, a comma after each (the last may go without)
 abbrev pub onto : ℕ → List (List ℕ) → List (List ℕ)
 onto c [] = (c ∷ []) ∷ []
 onto c (w ∷ ws) = (c ∷ w) ∷ ws
@@ -65,6 +64,7 @@ unfoldable pub words : List ℕ → List (List ℕ)
 words [] = []
 words (c ∷ s) = cond (eqb c 44) ([] ∷ words s) (onto c (words s))
 
+-- is there a name besides these?
 unfoldable pub named : List ℕ → Span → List (List ℕ) → Bool
 named text left [] = false
 named text left (w ∷ ws) = spells text left w || named text left ws
@@ -73,10 +73,3 @@ unfoldable pub besides : List ℕ → List (List ℕ) → List Pair → Bool
 unfolding named
 besides text names [] = false
 besides text names (pair left right ∷ ps) = not (named text left names) || besides text names ps
-
--- ---- two names at once, and where the list ends
-pub data LastTwo : Type 0 where
-  lastTwo : Option QuotedOrUnquoted → Option QuotedOrUnquoted → ℕ → LastTwo
-
-abbrev pub lastTwoOf : List ℕ → List ℕ → List ℕ → Many Pair → LastTwo
-lastTwoOf text a b m = lastTwo (get text a (items m)) (get text b (items m)) (stop m)

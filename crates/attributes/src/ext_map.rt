@@ -1,24 +1,23 @@
 // parser.rs, `extmap`: the list of a MAP, whose URI must be there.
+use crate::held;
+use crate::held::ATTR_WORDS;
+use crate::held::Attr;
 use crate::list;
-use crate::list::Attr;
 use crate::pair::QuotedOrUnquoted;
+use leaves::util;
+use leaves::util::ByteRange;
+use leaves::util::ByteRangeRes;
 use text::Span;
 use text::Why;
-use text::util;
-use text::util::ByteRange;
-use text::util::ByteRangeRes;
 ghost use mathlib.Core.Path.{_≡_};
+ghost use Rattle.text.specs.Nom.{ok, bind};
+ghost use Rattle.text.specs.Answers.{spanOf};
 ghost use Rattle.attributes.specs.ExtMap as rule;
-ghost use Rattle.attributes.specs.Answers.{attrOf, rangeRes, mapRes};
+ghost use Rattle.attributes.specs.Answers.{attrOf, optRangeOf, mapRes};
 
 pub enum OptRange {
     Absent,
     Present(ByteRange),
-}
-
-pub enum OptRangeRes {
-    Fail(Why),
-    Ok(OptRange),
 }
 
 // struct Map { uri: String, byte_range: Option<ByteRange>, other_attributes }, the last as the list's part of the text.
@@ -33,51 +32,57 @@ pub enum MapRes {
     Ok(Map, usize),
 }
 
-// The value's bytes end at a quote mark, which no byte range takes: so it is read where it stands.
-fn byte_range(text: &[u8], at: usize, attr: Attr) -> OptRangeRes
-    ensures { λ r. ⌜ rangeRes r at ≡ rule.rangeOf (attrOf attr) (now (text .entry)) at ⌝ }
+fn map_of(list: Span, uri: Span, byte_range: OptRange) -> MapRes
+    ensures { λ r. ⌜ mapRes r ≡ ok (rule.extMap (spanOf uri) (optRangeOf «byte_range») (spanOf list)) (list .end) ⌝ }
 {
-    match attr {
-        Attr::Absent => OptRangeRes::Ok(OptRange::Absent),
-        Attr::Present(value) => match value {
-            QuotedOrUnquoted::Unquoted(_) => OptRangeRes::Fail(Why::RangeNotQuoted),
-            QuotedOrUnquoted::Quoted(s) => {
-                let start = s.start;
-                match util::byte_range_val(text, start) {
-                    ByteRangeRes::Ok(range, _) => OptRangeRes::Ok(OptRange::Present(range)),
-                    ByteRangeRes::Fail(_) => OptRangeRes::Fail(Why::RangeBad),
-                }
-            }
+    let end = list.end;
+    MapRes::Ok(
+        Map {
+            uri,
+            byte_range,
+            list,
         },
+        end,
+    )
+}
+
+// What is left to read of a MAP is its byte range. The value's bytes end at a quote mark, which no byte range takes: so it is read where it stands.
+fn with_range(text: &[u8], list: Span, uri: Span, range: Attr) -> MapRes
+    ensures { λ r. ⌜ mapRes r ≡ bind (rule.rangeOf (attrOf range) (now (text .entry)) (list .end)) (λ b n. ok (rule.extMap (spanOf uri) b (spanOf list)) n) ⌝ }
+{
+    let Attr::Present(value) = range else {
+        return map_of(list, uri, OptRange::Absent);
+    };
+    let QuotedOrUnquoted::Quoted(s) = value else {
+        return MapRes::Fail(Why::RangeNotQuoted);
+    };
+    let start = s.start;
+    match util::byte_range_val(text, start) {
+        ByteRangeRes::Ok(range, _) => map_of(list, uri, OptRange::Present(range)),
+        ByteRangeRes::Fail(_) => MapRes::Fail(Why::RangeBad),
     }
 }
+
+// The names that a MAP has a use for, by their numbers.
+const URI: usize = 0;
+
+const BYTERANGE: usize = 1;
+
+const MAP_WORDS: usize = 2 * ATTR_WORDS;
 
 // What follows the list's last pair is left for the next step.
 pub fn extmap(text: &[u8], at: usize) -> MapRes
     ensures { λ r. ⌜ mapRes r ≡ rule.extmap (now (text .entry)) at ⌝ }
 {
-    let attrs = list::last_two(text, at, b"URI", b"BYTERANGE");
-    let end = attrs.end;
-    let uri = attrs.first;
-    let range = attrs.second;
-    match uri {
-        Attr::Absent => MapRes::Fail(Why::NoUri),
-        Attr::Present(value) => match value {
-            QuotedOrUnquoted::Unquoted(_) => MapRes::Fail(Why::UriNotQuoted),
-            QuotedOrUnquoted::Quoted(uri) => match byte_range(text, end, range) {
-                OptRangeRes::Ok(byte_range) => {
-                    let list = Span { start: at, end };
-                    MapRes::Ok(
-                        Map {
-                            uri,
-                            byte_range,
-                            list,
-                        },
-                        end,
-                    )
-                }
-                OptRangeRes::Fail(why) => MapRes::Fail(why),
-            },
-        },
-    }
+    let mut held = [0; MAP_WORDS];
+    let end = list::last_of_each(text, at, b"URI,BYTERANGE", &mut held);
+    let uri = held::attr_at(&held, URI);
+    let range = held::attr_at(&held, BYTERANGE);
+    let Attr::Present(value) = uri else {
+        return MapRes::Fail(Why::NoUri);
+    };
+    let QuotedOrUnquoted::Quoted(uri) = value else {
+        return MapRes::Fail(Why::UriNotQuoted);
+    };
+    with_range(text, Span { start: at, end }, uri, range)
 }

@@ -1,140 +1,117 @@
-// Pair after pair, until something stands there that is none; and what a list has under a name.
+// Pair after pair, until something stands there that is none; and the last of each name.
+use crate::held;
 use crate::pair;
 use crate::pair::Pair;
 use crate::pair::PairRes;
-use crate::pair::QuotedOrUnquoted;
 use text::Span;
-use text::Why;
-use text::scan;
 ghost use mathlib.Core.Path.{_≡_};
-ghost use mathlib.Core.Bool.{cond};
-ghost use mathlib.Core.Option.{some};
+ghost use Prim.Native.Nat.{_+_, _≤_};
+ghost use lib.ListN.{length, drop};
 ghost use Rattle.text.specs.Answers.{spanOf};
 ghost use Rattle.text.specs.Many.{many0, items};
 ghost use Rattle.attributes.specs.Pairs as rule;
-ghost use Rattle.attributes.specs.Answers.{valueOf, pairOf, nextPairRes, attrOf, lastTwoSeen, insertedTwo};
+ghost use Rattle.attributes.specs.Held.{LastOfEach};
+ghost use Rattle.attributes.specs.Inside.Insert.{foundIn, foundOf, insertedFrom};
+ghost use Rattle.attributes.specs.Answers.{pairOf, pairRes};
 
-// The place from which the next pair is read.
-pub struct Pairs {
-    pub at: usize,
-}
-
-pub enum NextPair {
-    Fail(Why),
-    Ok(Pair, Pairs),
-}
-
-impl Pairs {
-    // The pair here, after spaces and tabs, and the cursor behind it. Where it fails the list has ended.
-    pub fn next(self, text: &[u8]) -> NextPair
-        ensures { λ r. ⌜ nextPairRes r ≡ rule.nextPair (now (text .entry)) (self .at) ⌝ }
-    {
-        let at = self.at;
-        match pair::key_value_pair(text, scan::space0(text, at)) {
-            PairRes::Ok(p, after) => NextPair::Ok(p, Pairs { at: after }),
-            PairRes::Fail(why) => NextPair::Fail(why),
-        }
-    }
-}
-
-// What a list has under a name.
-pub enum Attr {
-    Absent,
-    Present(QuotedOrUnquoted),
-}
-
-// What a list has under each of two names, and where it ends: after its last pair and that one's comma.
-pub struct LastTwo {
-    pub first: Attr,
-    pub second: Attr,
-    pub end: usize,
-}
-
-fn keep(yes: bool, new: QuotedOrUnquoted, old: Attr) -> Attr
-    ensures { λ r. ⌜ attrOf r ≡ cond yes (some (valueOf new)) (attrOf old) ⌝ }
+// The pair here, after spaces and tabs. Where there is none the list has ended.
+pub fn next_pair(text: &[u8], at: usize) -> PairRes
+    ensures { λ r. ⌜ pairRes r ≡ rule.nextPair (now (text .entry)) at ⌝ }
 {
-    if yes { Attr::Present(new) } else { old }
+    pair::key_value_pair(text, scan::space0(text, at))
 }
 
-impl LastTwo {
-    fn insert(self, text: &[u8], a: &[u8], b: &[u8], p: Pair, after: Pairs) -> LastTwo
-        ensures { λ r. ⌜ lastTwoSeen r ≡ insertedTwo (now (text .entry)) (now (a .entry)) (now (b .entry)) (lastTwoSeen self) (pairOf p) (after .at) ⌝ }
-    {
-        let name = p.name;
-        let value = p.value;
-        let first = self.first;
-        let second = self.second;
-        LastTwo {
-            first: keep(scan::spells(text, name, a), value, first),
-            second: keep(scan::spells(text, name, b), value, second),
-            end: after.at,
-        }
-    }
+// Which of some names a part of the text is: the name's number, and the place of the next name.
+enum Found {
+    Nowhere,
+    At(usize, usize),
 }
 
-// Both names in one walk, since a list may run to the text's end.
-pub fn last_two(text: &[u8], at: usize, a: &[u8], b: &[u8]) -> LastTwo
-    ensures { λ r. ⌜ lastTwoSeen r ≡ rule.lastTwoOf (now (text .entry)) (now (a .entry)) (now (b .entry)) (many0 rule.nextPair (now (text .entry)) at) ⌝ }
+// The first of `names` that the part is, from that at `at` on, which has this number. The names stand in one text with a comma after each.
+fn find(text: &[u8], part: Span, names: &[u8], at: usize, number: usize) -> Found
+    requires { ⌜ number + length (rule.words (drop at (now names))) ≤ length (now names) ⌝ }
+    ensures { λ r. ⌜ foundOf (now (names .entry)) r ≡ foundIn (now (text .entry)) (spanOf part) number (rule.words (drop at (now (names .entry)))) ⌝ }
 {
-    let mut held = LastTwo {
-        first: Attr::Absent,
-        second: Attr::Absent,
-        end: at,
-    };
-    loop {
-        let at = held.end;
-        match (Pairs { at }).next(text) {
-            NextPair::Ok(p, after) => {
-                held = held.insert(text, a, b, p, after);
-            }
-            NextPair::Fail(_) => {
-                return held;
-            }
-        }
-    }
-}
-
-// The last pair of a name.
-pub fn last_named(text: &[u8], at: usize, name: &[u8]) -> Attr
-    ensures { λ r. ⌜ attrOf r ≡ rule.get (now (text .entry)) (now (name .entry)) (items (many0 rule.nextPair (now (text .entry)) at)) ⌝ }
-{
-    let held = last_two(text, at, name, name);
-    held.first
-}
-
-// Whether the name is one of `names`, which stand in one text with a comma after each.
-fn is_named(text: &[u8], name: Span, names: &[u8]) -> bool
-    ensures { λ r. ⌜ r ≡ rule.named (now (text .entry)) (spanOf name) (rule.words (now (names .entry))) ⌝ }
-{
-    let mut k = 0;
+    let mut k = at;
+    let mut n = number;
     while k < names.len() {
         let end = scan::until_one(names, k, b',');
-        if scan::spells(text, name, &names[k..end]) {
-            return true;
+        let next = scan::after_tag(names, end, b",");
+        if scan::spells(text, part, &names[k..end]) {
+            return Found::At(n, next);
         }
-        if names.len() <= end {
-            return false;
-        }
-        k = end + 1;
+        k = next;
+        n += 1;
     }
-    false
+    Found::Nowhere
+}
+
+// One pair more: under each name that is the pair's, its value takes the place of what is held there.
+fn insert(text: &[u8], p: Pair, names: &[u8], held: &mut [u64])
+    ensures { λ _. ⌜ now (held .exit) ≡ insertedFrom (now (text .entry)) (pairOf p) 0 (rule.words (now (names .entry))) (now (held .entry)) ⌝ }
+{
+    let name = p.name;
+    let value = p.value;
+    let mut k = 0;
+    let mut number = 0;
+    loop {
+        match find(text, name, names, k, number) {
+            Found::At(n, next) => {
+                held::put(held, n, value);
+                k = next;
+                number = n + 1;
+            }
+            Found::Nowhere => {
+                return;
+            }
+        }
+    }
+}
+
+// Where the list ends: after its last pair and that one's comma. What it has under each of `names` is then held, three words to a name (`held::attr_at`).
+// All names in one walk, since a list may run to the text's end.
+pub fn last_of_each(text: &[u8], at: usize, names: &[u8], held: &mut [u64]) -> usize
+    ensures { λ r. ⌜ LastOfEach (now (text .entry)) at (now (names .entry)) (now (held .entry)) (now (held .exit)) r ⌝ }
+{
+    held::clear(held);
+    let mut from = at;
+    loop {
+        match next_pair(text, from) {
+            PairRes::Ok(p, after) => {
+                insert(text, p, names, held);
+                from = after;
+            }
+            PairRes::Fail(_) => {
+                return from;
+            }
+        }
+    }
+}
+
+fn is_named(text: &[u8], part: Span, names: &[u8]) -> bool
+    ensures { λ r. ⌜ r ≡ rule.named (now (text .entry)) (spanOf part) (rule.words (now (names .entry))) ⌝ }
+{
+    match find(text, part, names, 0, 0) {
+        Found::At(_, _) => true,
+        Found::Nowhere => false,
+    }
 }
 
 // Whether the list has a name besides these.
 pub fn has_besides(text: &[u8], at: usize, names: &[u8]) -> bool
     ensures { λ r. ⌜ r ≡ rule.besides (now (text .entry)) (rule.words (now (names .entry))) (items (many0 rule.nextPair (now (text .entry)) at)) ⌝ }
 {
-    let mut cursor = Pairs { at };
+    let mut from = at;
     loop {
-        match cursor.next(text) {
-            NextPair::Ok(p, after) => {
+        match next_pair(text, from) {
+            PairRes::Ok(p, after) => {
                 if is_named(text, p.name, names) {
-                    cursor = after;
+                    from = after;
                 } else {
                     return true;
                 }
             }
-            NextPair::Fail(_) => {
+            PairRes::Fail(_) => {
                 return false;
             }
         }

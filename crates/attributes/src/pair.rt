@@ -1,7 +1,6 @@
 // A pair: a name, `=`, and a value with or without quote marks.
 use text::Span;
 use text::Why;
-use text::scan;
 ghost use mathlib.Core.Path.{_≡_};
 ghost use Rattle.text.specs.Nom.{alt};
 ghost use Rattle.attributes.specs.Pairs as rule;
@@ -80,14 +79,15 @@ pub fn key_value_pair(text: &[u8], at: usize) -> PairRes
     if text.len() <= name_end {
         return PairRes::Fail(Why::OtherText);
     }
+    let name = Span {
+        start: at,
+        end: name_end,
+    };
     match read_value(text, name_end + 1) {
-        ValueRes::Ok(value, after) => {
-            let name = Span {
-                start: at,
-                end: name_end,
-            };
-            PairRes::Ok(Pair { name, value }, scan::after_tag(text, after, b","))
-        }
+        ValueRes::Ok(value, after) => PairRes::Ok(
+            Pair { name, value },
+            scan::after_tag(text, after, b","),
+        ),
         ValueRes::Fail(why) => PairRes::Fail(why),
     }
 }

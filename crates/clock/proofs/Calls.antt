@@ -8,7 +8,8 @@ use lib.Dec.{leb, ltb}
 use borrow.Author.Tests.{le-leb, lt-leb, leb-true, lt-ltb, le-ltb, ltb-true}
 use Rattle.tables.specs.Refusal.{Answer, refused, given, brokenTable, totalTooLong, badRate, turnTooLate, noSuchClip}
 use Rattle.tables.proofs.Refusals.{Front, front-or, front-then, front-as}
-use Rattle.clock.specs.Clock.{largestTotal, largestRate, lastTurn, second, sumLengths, keepsRule, momentOf, tickOf, ticksOf}
+use Rattle.tables.specs.Layout.{second}
+use Rattle.clock.specs.Clock.{largestTotal, largestRate, lastTurn, sumLengths, keepsRule, momentOf, tickOf, ticksOf}
 use Rattle.clock.specs.Calls.{timed, inTurn, ofClip, startNs, startTick, clipTicks}
 use Rattle.clock.proofs.Moments.{tick-low, tick-high}
 

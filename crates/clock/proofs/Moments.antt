@@ -8,7 +8,8 @@ use native.Mathlib.Nat.{mul-le-mul, mul-le-mul-right, div-mul-le-self, div-add-m
 use native.Mathlib.Omega.{arith}
 use lib.Dec.{lit<, ltb}
 use borrow.Author.Tests.{ltb-false}
-use Rattle.clock.specs.Clock.{largestTotal, largestRate, lastTurn, second, sumLengths, momentOf, nextMoment, tickOf, ticksOf, sumTicks}
+use Rattle.tables.specs.Layout.{second}
+use Rattle.clock.specs.Clock.{largestTotal, largestRate, lastTurn, sumLengths, momentOf, nextMoment, tickOf, ticksOf, sumTicks}
 use Rattle.clock.proofs.Lengths.{sum-mono}
 
 -- ---- one tick

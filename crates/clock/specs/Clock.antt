@@ -6,6 +6,7 @@ use Prim.Native.Nat.{ℕ, zero, suc, _+_, _-_, _*_, _/_, _^_}
 use lib.Dec.{ltb}
 use Rattle.tables.specs.Layout as layout
 use Rattle.tables.specs.Table.{every, clipsFit, clipWord}
+use Rattle.tables.specs.Layout.{second}
 
 -- ---- limits
 abbrev pub largestTotal : ℕ
@@ -16,10 +17,6 @@ largestRate = 90000
 
 abbrev pub lastTurn : ℕ
 lastTurn = 999999
-
--- ns in a second
-abbrev pub second : ℕ
-second = 10 ^ 9
 
 -- ---- lengths
 -- the length of clip k, in ns

@@ -6,6 +6,7 @@ pub mod starts; // all starts of a turn in one pass
 
 use tables::Refusal;
 use tables::layout;
+use tables::layout::SECOND;
 use tables::record;
 ghost use mathlib.Core.Path.{_≡_};
 ghost use Prim.Native.Nat.{ℕ, _+_, _*_, _≤_, min};
@@ -19,8 +20,6 @@ pub const LARGEST_TOTAL: u64 = 1_000_000_000_000_000;
 pub const LARGEST_RATE: u64 = 90_000;
 
 pub const LAST_TURN: u64 = 999_999;
-
-const SECOND: u64 = 1_000_000_000;
 
 // A call's answer: 01's refusal, at place 0, or a number of ns or of ticks.
 pub enum Answer {

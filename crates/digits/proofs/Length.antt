@@ -10,7 +10,8 @@ use lib.ListN.{length, length-append}
 use borrow.Author.Tests.{eq-eqb, ne-eqb, eqb-true, eqb-false}
 use Rattle.text.specs.Nom.{isDigit, decimal}
 use Rattle.text.proofs.Ahead.{Every}
-use Rattle.digits.specs.Digits.{second, numberText, fractionBy, fractionText, lengthText}
+use Rattle.tables.specs.Layout.{second}
+use Rattle.digits.specs.Digits.{numberText, fractionBy, fractionText, lengthText}
 use Rattle.digits.proofs.Number.{digit-is, decimal-none, decimal-digit, number-short, Digits, digits-of}
 
 ten-pos : (k : ℕ) → 0 < 10 ^ k

@@ -4,7 +4,8 @@ use Prim.Native.Nat.{ℕ, suc, zero, _+_, _-_, _*_, _/_, _%_, _^_, _≤_, _<_}
 use native.Mathlib.Nat.{pow-suc}
 use native.Mathlib.Omega.{arith}
 use lib.ListN.{length, length-append}
-use Rattle.digits.specs.Digits.{second, numberText, fractionBy, fractionText}
+use Rattle.tables.specs.Layout.{second}
+use Rattle.digits.specs.Digits.{numberText, fractionBy, fractionText}
 use Rattle.digits.proofs.Number.{number-small, number-more, number-size}
 use Rattle.digits.proofs.Length.{fraction-zero-end, fraction-full, fraction-point}
 

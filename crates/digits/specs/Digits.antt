@@ -3,6 +3,7 @@ use mathlib.Core.Bool.{cond}
 use mathlib.Core.List.{List, [], _∷_, _++_}
 use Prim.Native.Nat.{ℕ, suc, zero, _+_, _/_, _%_, _^_}
 use lib.Dec.{ltb, eqb}
+use Rattle.tables.specs.Layout.{second}
 
 -- the digits of n, with at most f of them before the last
 unfoldable pub digitsBy : ℕ → ℕ → List ℕ
@@ -21,10 +22,6 @@ fractionBy (suc k) f = cond (eqb f 0) [] ((48 + f / 10 ^ k) ∷ fractionBy k (f 
 -- "and without a point if the fraction is zero"
 unfoldable pub fractionText : ℕ → List ℕ
 fractionText f = cond (eqb f 0) [] (46 ∷ fractionBy 9 f)
-
--- ns in a second
-abbrev pub second : ℕ
-second = 10 ^ 9
 
 -- a length in ns, as seconds
 unfoldable pub lengthText : ℕ → List ℕ

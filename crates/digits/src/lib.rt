@@ -1,11 +1,10 @@
 // How many bytes a number and a length take as text (01, "Writing"). The texts themselves are in `specs/`; who has room for them writes them.
+use tables::layout::SECOND;
 ghost use mathlib.Core.Path.{_≡_};
 ghost use Prim.Native.Nat.{_^_, _≤_, _<_};
 ghost use lib.ListN.{length};
-ghost use Rattle.digits.specs.Digits.{second, numberText, fractionBy, fractionText, lengthText};
-
-// Ns in a second.
-pub const SECOND: u64 = 1_000_000_000;
+ghost use Rattle.tables.specs.Layout.{second};
+ghost use Rattle.digits.specs.Digits.{numberText, fractionBy, fractionText, lengthText};
 
 // One digit, and one more for each time that ten goes into what is left.
 pub fn number_size(n: u64) -> usize

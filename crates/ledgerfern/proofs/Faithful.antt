@@ -7,7 +7,7 @@ use Prim.Native.Nat.{ℕ, zero, suc}
 use lib.ListN.{getD}
 use Rattle.text.proofs.Only.{Only, only-by}
 use Rattle.tables.specs.Refusal.{Refusal, textTooLong, notUtf8, noHeader, isMaster, leftOutTag, tooManyDigits, clipTableShort, tagTableShort, brokenTable, outputShort, totalTooLong, badRate, turnTooLate, noSuchClip, windowTooFar, numberOf, Answer, refused, given}
-use Rattle.media.specs.Assembly.{Head}
+use Rattle.assembly.specs.Assembly.{Head}
 use Rattle.media.specs.Calls.{Read, read}
 use Rattle.window.specs.Window.{Window, none, range}
 use Rattle.ledgerfern.specs.declared.Verdict as verdictᵈ

@@ -1,15 +1,15 @@
 -- A head's numbers and the way back: `headNumbers` and `headOf` are inverse to each other. Assumes nothing.
 use mathlib.Core.Path.{_≡_, refl, sym, _∙_, ap}
-use mathlib.Core.Bool.{Bool, true, false, cond, _&&_, _||_}
+use mathlib.Core.Bool.{Bool, true, false, cond, _&&_, and-assoc}
 use mathlib.Core.Option.{Option, none, some}
-use Prim.Native.Nat.{ℕ, zero, suc, _≤_, _<_}
+use Prim.Native.Nat.{ℕ, zero, suc, _<_}
 use native.Mathlib.Omega.{arith}
-use lib.Dec.{leb, eqb}
+use lib.Dec.{eqb}
 use borrow.Author.Tests.{leb-true, eqb-true}
 use Rattle.text.proofs.Laws.{and-left, and-right}
 use Rattle.text.specs.Nom.{span}
 use Rattle.text.specs.BasicTags.{PlaylistType, event, vod, other}
-use Rattle.media.specs.Assembly.{Head, head}
+use Rattle.assembly.specs.Assembly.{Head}
 use Rattle.ledgerfern.specs.declared.Head as headᵈ
 use Rattle.ledgerfern.specs.Numbers.{mark, presentNumber, versionNumber, typeNumber, typeStart, typeEnd, headNumbers}
 use Rattle.ledgerfern.specs.Heads.{isMark, isVersion, isType, isHead, markFrom, versionFrom, typeFrom, headFrom, headOf}
@@ -29,6 +29,17 @@ type-more (suc zero) a b h = absurd (omega (arith, h))
 type-more (suc (suc zero)) a b h = absurd (omega (arith, h))
 type-more (suc (suc (suc n))) a b h = refl
 
+-- ---- which numbers a head has: five tests, joined from the left by the code and from the right by the rule
+five : (a b c d e : Bool) → (a && b && c && d && e) ≡ (a && (b && (c && (d && e))))
+five true true c d e = and-assoc c d e
+five true false c d e = refl
+five false b c d e = refl
+
+pub head-tested : (h : headᵈ.Head) {v t e i n : Bool} → v ≡ isVersion (h .«version_present») (h .version) → t ≡ isType (h .«playlist_type») (h .«type_start») (h .«type_end»)
+    → e ≡ isMark (h .«end_list») → i ≡ isMark (h .«i_frames_only») → n ≡ isMark (h .«independent_segments») → (v && t && e && i && n) ≡ isHead h
+unfolding isHead
+head-tested h {v} {t} {e} {i} {n} p q r s u = five v t e i n ∙ rw (p, q, r, s, u)
+
 -- ---- out and in again
 pub mark-in : (b : Bool) → (isMark (mark b) ≡ true) × (markFrom (mark b) ≡ b)
 mark-in true = (refl, refl)
@@ -47,11 +58,11 @@ type-in (some vod) = (refl, refl)
 type-in (some (other (span a b))) = (refl, refl)
 
 pub numbers-in : (h : Head) → headFrom (headNumbers h) ≡ h
-numbers-in (head v d m c p e i n) = rw (version-in v .1, type-in p .1, mark-in e .1, mark-in i .1, mark-in n .1)
+numbers-in hd = rw (version-in (hd .version) .1, type-in (hd .type) .1, mark-in (hd .ended) .1, mark-in (hd .iFrames) .1, mark-in (hd .independent) .1)
 
 is-head : (h : Head) → isHead (headNumbers h) ≡ true
 unfolding isHead
-is-head (head v d m c p e i n) = rw (version-in v .0, type-in p .0, mark-in e .0, mark-in i .0, mark-in n .0)
+is-head hd = rw (version-in (hd .version) .0, type-in (hd .type) .0, mark-in (hd .ended) .0, mark-in (hd .iFrames) .0, mark-in (hd .independent) .0)
 
 -- a head's numbers give that head
 pub head-in : (h : Head) → headOf (headNumbers h) ≡ some h

@@ -3,11 +3,10 @@ use mathlib.Core.Path.{_≡_, refl}
 use mathlib.Core.Bool.{true, false}
 use mathlib.Core.List.{[], _∷_, map}
 use mathlib.Core.Option.{none, some}
-use Prim.Native.Nat.{ℕ}
 use Rattle.text.specs.Nom.{span}
-use Rattle.text.specs.BasicTags.{vod, other}
+use Rattle.text.specs.BasicTags.{other}
 use Rattle.tables.specs.Refusal.{refused, given, leftOutTag, noSuchClip}
-use Rattle.media.specs.Assembly.{head, emptyHead}
+use Rattle.assembly.specs.Assembly.{head, emptyHead}
 use Rattle.window.specs.Window as window
 use Rattle.ledgerfern.specs.declared.Head as headᵈ
 use Rattle.ledgerfern.specs.Numbers.{verdictNumbers, valueNumbers, windowNumbers, headNumbers, readNumbers}

@@ -7,7 +7,7 @@ use mathlib.Core.Option.{Option, none, some}
 use lib.Dec.{leb, eqb}
 use Rattle.text.specs.Nom.{span}
 use Rattle.text.specs.BasicTags.{PlaylistType, event, vod, other}
-use Rattle.media.specs.Assembly.{Head, head}
+use Rattle.assembly.specs.Assembly.{Head, head}
 use Rattle.ledgerfern.specs.declared.Head as headᵈ
 
 -- ---- which numbers a head has

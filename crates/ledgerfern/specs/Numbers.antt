@@ -8,9 +8,9 @@ use mathlib.Core.Option.{Option, none, some}
 use lib.ListN.{length}
 use Rattle.text.specs.Nom.{span}
 use Rattle.text.specs.BasicTags.{PlaylistType, event, vod, other}
-use Rattle.tables.specs.Refusal.{Answer, refused, given, number, place}
-use Rattle.media.specs.Assembly.{Head, head, emptyHead}
-use Rattle.media.specs.Words.{clipsWords, tagsWords}
+use Rattle.tables.specs.Refusal.{Answer, refused, given, answerNumber, answerPlace}
+use Rattle.assembly.specs.Assembly.{Head, head, emptyHead}
+use Rattle.assembly.specs.Words.{clipsWords, tagsWords}
 use Rattle.media.specs.Calls.{Read, read, parseMediaPlaylist, clipsRead, tagsRead, laid}
 use Rattle.window.specs.Window as window
 use Rattle.ledgerfern.specs.declared.Verdict as verdictᵈ
@@ -31,15 +31,15 @@ orZero f (refused r p) = 0
 orZero f (given a) = f a
 
 abbrev pub verdictNumbers : Answer Bool → verdictᵈ.Verdict
-verdictNumbers a = record { number = number a; place = place a; master = orZero mark a }
+verdictNumbers a = record { number = answerNumber a; place = answerPlace a; master = orZero mark a }
 
 -- ns or ticks
 abbrev pub valueNumbers : Answer ℕ → valueᵈ.Value
-valueNumbers a = record { number = number a; place = place a; value = orZero (λ n. n) a }
+valueNumbers a = record { number = answerNumber a; place = answerPlace a; value = orZero (λ n. n) a }
 
 -- how many bytes were written
 abbrev pub writtenNumbers : Answer ℕ → writtenᵈ.Written
-writtenNumbers a = record { number = number a; place = place a; length = orZero (λ n. n) a }
+writtenNumbers a = record { number = answerNumber a; place = answerPlace a; length = orZero (λ n. n) a }
 
 -- "1 or 0 for a range, start, end"; "without a range, the answer none, start and end 0"
 abbrev pub rangePresent : window.Window → ℕ
@@ -48,8 +48,8 @@ rangePresent (window.range start end) = 1
 
 abbrev pub windowNumbers : Answer window.Window → windowᵈ.Window
 windowNumbers a = record {
-  number = number a;
-  place = place a;
+  number = answerNumber a;
+  place = answerPlace a;
   present = orZero rangePresent a;
   start = orZero window.startOf a;
   end = orZero window.endOf a;
@@ -84,18 +84,18 @@ typeEnd (some vod) = 0
 typeEnd (some (other (span a b))) = b
 
 abbrev pub headNumbers : Head → headᵈ.Head
-headNumbers (head v d m c p e i n) = record {
-  «version_present» = presentNumber v;
-  version = versionNumber v;
-  «target_duration» = d;
-  «media_sequence» = m;
-  «discontinuity_sequence» = c;
-  «playlist_type» = typeNumber p;
-  «type_start» = typeStart p;
-  «type_end» = typeEnd p;
-  «end_list» = mark e;
-  «i_frames_only» = mark i;
-  «independent_segments» = mark n;
+headNumbers hd = record {
+  «version_present» = presentNumber (hd .version);
+  version = versionNumber (hd .version);
+  «target_duration» = (hd .target);
+  «media_sequence» = (hd .sequence);
+  «discontinuity_sequence» = (hd .discontinuities);
+  «playlist_type» = typeNumber (hd .type);
+  «type_start» = typeStart (hd .type);
+  «type_end» = typeEnd (hd .type);
+  «end_list» = mark (hd .ended);
+  «i_frames_only» = mark (hd .iFrames);
+  «independent_segments» = mark (hd .independent);
 }
 
 -- ---- the reader: the empty head's numbers are zeros
@@ -114,8 +114,8 @@ stopGiven (read h c t n) = n
 
 abbrev pub readNumbers : Answer Read → readᵈ.Read
 readNumbers a = record {
-  number = number a;
-  place = place a;
+  number = answerNumber a;
+  place = answerPlace a;
   clips = orZero clipsGiven a;
   tags = orZero tagsGiven a;
   stop = orZero stopGiven a;

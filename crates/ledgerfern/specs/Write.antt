@@ -7,7 +7,7 @@ use lib.Dec.{leb}
 use lib.ListN.{length}
 use Rattle.tables.specs.Refusal.{Answer, refused, orRefuse, textTooLong, brokenTable}
 use Rattle.verdict.specs.Calls.{textLimit}
-use Rattle.media.specs.Assembly.{Head}
+use Rattle.assembly.specs.Assembly.{Head}
 use Rattle.media.specs.Calls.{laid}
 use Rattle.playlist.specs.Calls.{writtenText, writeTo}
 use Rattle.ledgerfern.specs.declared.Head as headᵈ
@@ -15,10 +15,13 @@ use Rattle.ledgerfern.specs.declared.Written as writtenᵈ
 use Rattle.ledgerfern.specs.Heads.{headOf}
 use Rattle.ledgerfern.specs.Numbers.{writtenNumbers}
 
+-- no head, whatever the tables and the output: 1 comes before 9
+abbrev pub writeNone : List ℕ → Answer ℕ
+writeNone text = orRefuse (leb (length text) textLimit) textTooLong 0 (refused brokenTable 0)
+
 module _ (text clips : List ℕ) (n : ℕ) (tags : List ℕ) (m : ℕ) where
-  -- no head: 1 comes before 9
   abbrev pub writeWith : Option Head → ℕ → Answer ℕ
-  writeWith none room = orRefuse (leb (length text) textLimit) textTooLong 0 (refused brokenTable 0)
+  writeWith none room = writeNone text
   writeWith (some h) room = writeTo text h clips n tags m room
 
   abbrev pub textWith : Option Head → List ℕ

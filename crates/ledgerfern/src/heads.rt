@@ -1,12 +1,12 @@
 // A head from its eleven numbers, for a call that takes one: the way back from `numbers::of_head`.
 use crate::Head;
-use media::head;
-use media::head::HeadType;
-use media::head::Version;
+use assembly::head;
+use assembly::head::HeadType;
+use assembly::head::Version;
+use leaves::basic_tags::PlaylistType;
 use text::Span;
-use text::basic_tags::PlaylistType;
 ghost use mathlib.Core.Path.{_≡_};
-ghost use Rattle.media.specs.Answers.{versionOf, headTypeOf, headSeen};
+ghost use Rattle.assembly.specs.Answers.{versionOf, headTypeOf, headSeen};
 ghost use Rattle.ledgerfern.specs.Heads as rule;
 ghost use Rattle.ledgerfern.specs.Answers.{headRes};
 
@@ -26,47 +26,24 @@ fn is_mark(number: u64) -> bool
 fn is_version(present: u64, version: u64) -> bool
     ensures { λ r. ⌜ r ≡ rule.isVersion present version ⌝ }
 {
-    if !is_mark(present) {
-        return false;
-    }
-    if present == 1 {
-        return true;
-    }
-    version == 0
+    is_mark(present) & ((present == 1) | (version == 0))
 }
 
 fn is_type(number: u64, start: u64, end: u64) -> bool
     ensures { λ r. ⌜ r ≡ rule.isType number start end ⌝ }
 {
-    if OTHER_TEXT < number {
-        return false;
-    }
-    if number == OTHER_TEXT {
-        return true;
-    }
-    if start != 0 {
-        return false;
-    }
-    end == 0
+    (number <= OTHER_TEXT) & ((number == OTHER_TEXT) | ((start == 0) & (end == 0)))
 }
 
 // Whether a head has these numbers.
 fn is_head(h: Head) -> bool
     ensures { λ r. ⌜ r ≡ rule.isHead h ⌝ }
 {
-    if !is_version(h.version_present, h.version) {
-        return false;
-    }
-    if !is_type(h.playlist_type, h.type_start, h.type_end) {
-        return false;
-    }
-    if !is_mark(h.end_list) {
-        return false;
-    }
-    if !is_mark(h.i_frames_only) {
-        return false;
-    }
-    is_mark(h.independent_segments)
+    is_version(h.version_present, h.version)
+        & is_type(h.playlist_type, h.type_start, h.type_end)
+        & is_mark(h.end_list)
+        & is_mark(h.i_frames_only)
+        & is_mark(h.independent_segments)
 }
 
 fn mark_from(number: u64) -> bool

@@ -106,7 +106,7 @@ pub extern "C" fn ledgerfern_write(
     match heads::head_of(head) {
         HeadRes::NoHead => numbers::of_no_head(text),
         HeadRes::Is(h) => {
-            let given = playlist::write_to(text, h, clips, clip_count, tags, tag_count, out);
+            let given = writer::write_to(text, h, clips, clip_count, tags, tag_count, out);
             numbers::of_written(given)
         }
     }

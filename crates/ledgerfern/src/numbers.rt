@@ -5,24 +5,22 @@ use crate::Value;
 use crate::Verdict;
 use crate::Window;
 use crate::Written;
+use assembly::head;
+use assembly::head::HeadType;
+use assembly::head::Version;
+use leaves::basic_tags::PlaylistType;
 use media::ParseAnswer;
-use media::head;
-use media::head::HeadType;
-use media::head::Version;
 use playlist::WriteAnswer;
 use tables::Refusal;
-use text::basic_tags::PlaylistType;
 use verdict::MasterAnswer;
 ghost use mathlib.Core.Path.{_≡_};
 ghost use Rattle.verdict.specs.Answers.{masterAnswer};
-ghost use Rattle.media.specs.Answers.{versionOf, headTypeOf, headSeen, parseAnswer};
+ghost use Rattle.assembly.specs.Answers.{versionOf, headTypeOf, headSeen};
+ghost use Rattle.media.specs.Answers.{parseAnswer};
 ghost use Rattle.clock.specs.Answers as clock;
 ghost use Rattle.window.specs.Answers as window;
-ghost use mathlib.Core.Option.{none};
-ghost use mathlib.Core.List.{List};
-ghost use Prim.Native.Nat.{ℕ};
 ghost use Rattle.playlist.specs.Answers.{writeAnswer};
-ghost use Rattle.ledgerfern.specs.Write.{writeWith};
+ghost use Rattle.ledgerfern.specs.Write.{writeNone};
 ghost use Rattle.ledgerfern.specs.Numbers as rule;
 
 fn mark(holds: bool) -> u64
@@ -215,9 +213,9 @@ pub fn of_written(given: WriteAnswer) -> Written
     }
 }
 
-// Where no head has the numbers, whatever the tables and the output: 1 comes before 9.
+// Where no head has the numbers: 1 comes before 9.
 pub fn of_no_head(text: &[u8]) -> Written
-    ensures { λ r. ⌜ ((clips : List ℕ) (n : ℕ) (tags : List ℕ) (m room : ℕ) → r ≡ rule.writtenNumbers (writeWith (now (text .entry)) clips n tags m none room)) ⌝ }
+    ensures { λ r. ⌜ r ≡ rule.writtenNumbers (writeNone (now (text .entry))) ⌝ }
 {
     if verdict::TEXT_LIMIT < text.len() {
         return of_written(WriteAnswer::Refused(Refusal::TextTooLong));

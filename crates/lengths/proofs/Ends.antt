@@ -14,6 +14,7 @@ use Rattle.text.specs.Nom.{Res, fail, ok, Span, bytes, isDigit, tagged, runEnd,
 use Rattle.text.proofs.Laws.{or-false}
 use Rattle.text.proofs.Local.{ltb-add}
 use Rattle.text.proofs.Takes.{when-ok, bind-ok}
+use Rattle.tables.specs.Layout.{second}
 use Rattle.lengths.specs.Duration.{Digits, digits, counted, sideDigits, Length, ns, tooManyDigits, lengthOf, float, extinf, isLong}
 use Rattle.lengths.specs.Answers.{after}
 use Rattle.lengths.proofs.Sides.{afterPoint, float-whole, float-both}
@@ -42,13 +43,13 @@ not-both false c = refl
 
 module _ (v n : ℕ) (t : Option Span) where
   whole-long : ltb sideDigits n ≡ isLong (extinf (lengthOf (digits v n) none) t)
-  whole-long = over n sideDigits ∙ picked-long (leb n sideDigits) (v * 10 ^ 9) t
+  whole-long = over n sideDigits ∙ picked-long (leb n sideDigits) (v * second) t
 
   both-long : (w m : ℕ) → (ltb sideDigits n || ltb sideDigits m) ≡ isLong (extinf (lengthOf (digits v n) (some (digits w m))) t)
   both-long w m =
       let b = leb n sideDigits in
       let c = leb m sideDigits in
-      rw (over n sideDigits, over m sideDigits) (not-both b c ∙ picked-long (b && c) (v * 10 ^ 9 + w * 10 ^ (9 - m)) t)
+      rw (over n sideDigits, over m sideDigits) (not-both b c ∙ picked-long (b && c) (v * second + w * 10 ^ (9 - m)) t)
 
 -- ---- digits, and those after a point
 module _ (text : List ℕ) (at : ℕ) where

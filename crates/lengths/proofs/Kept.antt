@@ -11,6 +11,7 @@ use Rattle.text.specs.Why.{Why}
 use Rattle.text.specs.Nom.{Res, fail, ok, bind, digit1, map}
 use Rattle.text.specs.Util.{fits, large, parse, parsed, orZero}
 use Rattle.text.proofs.Takes.{fail-not-ok}
+use Rattle.tables.specs.Layout.{second}
 use Rattle.lengths.specs.Duration.{Digits, digits, counted, sideDigits, Length, ns, tooManyDigits, lengthOf, float}
 use Rattle.lengths.specs.Answers.{kept}
 use Rattle.lengths.proofs.Sides.{Written, counted-written, side-below, afterPoint, after-written, float-none, float-whole, float-both}
@@ -33,7 +34,7 @@ kept-length : (l r : Digits) → Written l → Written r → lengthOf (kept l) (
 kept-length (digits v n) (digits w m) h k = go (leb n sideDigits) (leb m sideDigits) refl refl
   where
     go : (b c : Bool) → leb n sideDigits ≡ b → leb m sideDigits ≡ c
-        → cond (b && c) (ns (orZero (parse v) * 10 ^ 9 + orZero (parse w) * 10 ^ (9 - m))) tooManyDigits ≡ cond (b && c) (ns (v * 10 ^ 9 + w * 10 ^ (9 - m))) tooManyDigits
+        → cond (b && c) (ns (orZero (parse v) * second + orZero (parse w) * 10 ^ (9 - m))) tooManyDigits ≡ cond (b && c) (ns (v * second + w * 10 ^ (9 - m))) tooManyDigits
     go true true p q = rw (kept-value v n (leb-true n sideDigits p) h, kept-value w m (leb-true m sideDigits q) k)
     go true false p q = refl
     go false c p q = refl
@@ -42,7 +43,7 @@ kept-length (digits v n) (digits w m) h k = go (leb n sideDigits) (leb m sideDig
 no-fraction : (d : Digits) → lengthOf d (some (digits 0 0)) ≡ lengthOf d none
 no-fraction (digits v n) = go (leb n sideDigits)
   where
-    go : (b : Bool) → cond (b && true) (ns (v * 10 ^ 9 + 0)) tooManyDigits ≡ cond b (ns (v * 10 ^ 9)) tooManyDigits
+    go : (b : Bool) → cond (b && true) (ns (v * second + 0)) tooManyDigits ≡ cond b (ns (v * second)) tooManyDigits
     go true = ap ns (omega arith)
     go false = refl
 

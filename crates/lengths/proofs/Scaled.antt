@@ -10,21 +10,22 @@ use lib.Pow.{pow-pos, pow-mono, pow-add}
 use lib.Ieee.{binary32}
 use lib.Ieee.Nearest.{closest}
 use lib.Ieee.Order.{kept}
+use Rattle.tables.specs.Layout.{second}
 use Rattle.lengths.specs.Binary32.{secondsBits}
 use Rattle.lengths.proofs.Rounded.{kept-is, kept-high, round-bits}
 
 -- by how many digits the 24 that are kept stand above the quotient's last
 abbrev pub shift : ℕ → ℕ
-shift n = 63 - leadingZeros 64 (n / 10 ^ 9) - 23
+shift n = 63 - leadingZeros 64 (n / second) - 23
 
 pub record Scaled (ns n : ℕ) : Type 0 where
   pub up-lt : leadingZeros 64 ns < 64
   pub moved : n ≡ ns * 2 ^ leadingZeros 64 ns
   pub fits : n < 2 ^ 64
-  pub zeros-ge : 29 ≤ leadingZeros 64 (n / 10 ^ 9)
-  pub zeros-le : leadingZeros 64 (n / 10 ^ 9) ≤ 30
-  pub low : 2 ^ (23 + shift n) ≤ ns * 2 ^ leadingZeros 64 ns / 10 ^ 9
-  pub high : ns * 2 ^ leadingZeros 64 ns / 10 ^ 9 < 2 ^ suc (23 + shift n)
+  pub zeros-ge : 29 ≤ leadingZeros 64 (n / second)
+  pub zeros-le : leadingZeros 64 (n / second) ≤ 30
+  pub low : 2 ^ (23 + shift n) ≤ ns * 2 ^ leadingZeros 64 ns / second
+  pub high : ns * 2 ^ leadingZeros 64 ns / second < 2 ^ suc (23 + shift n)
 
 module _ (ns : ℕ) (p : 0 < ns) (h : ns < 2 ^ 64) where
   abbrev u : ℕ
@@ -47,7 +48,7 @@ module _ (ns : ℕ) (p : 0 < ns) (h : ns < 2 ^ 64) where
 
   raised : Scaled ns n
   raised =
-      let q = n / 10 ^ 9 in
+      let q = n / second in
       let a : 2 ^ 33 ≤ q = omega (arith, top) in
       let b : q < 2 ^ 35 = omega (arith, word) in
       let r = leading-top 64 ns p h in
@@ -68,29 +69,29 @@ module _ (ns : ℕ) (p : 0 < ns) (h : ns < 2 ^ 64) where
 pub scaled : (ns n : ℕ) → 0 < ns → ns < 2 ^ 64 → n ≡ ns * 2 ^ leadingZeros 64 ns → Scaled ns n
 scaled ns n p h e = rw e (raised ns p h)
 
-pub unit-fits : {ns n : ℕ} → Scaled ns n → (1 < 10 ^ 9 * 2 ^ shift n) × (10 ^ 9 * 2 ^ shift n < 2 ^ 63)
+pub unit-fits : {ns n : ℕ} → Scaled ns n → (1 < second * 2 ^ shift n) × (second * 2 ^ shift n < 2 ^ 63)
 unit-fits {ns} {n} S =
     let m : 2 ^ shift n ≤ 2 ^ 11 = pow-mono {j = 11} (omega arith) in
     let p : 0 < 2 ^ shift n = pow-pos (shift n) in
     (omega arith, omega arith)
 
 -- the quotient by the unit is the quotient by 10^9 without those digits
-pub quotient-moved : (n unit : ℕ) → unit ≡ 10 ^ 9 * 2 ^ shift n → n / 10 ^ 9 / 2 ^ shift n ≡ n / unit
-quotient-moved n unit e = div-div-eq-div-mul n (10 ^ 9) (2 ^ shift n) ∙ ap (λ (z : ℕ). n / z) (sym e)
+pub quotient-moved : (n unit : ℕ) → unit ≡ second * 2 ^ shift n → n / second / 2 ^ shift n ≡ n / unit
+quotient-moved n unit e = div-div-eq-div-mul n second (2 ^ shift n) ∙ ap (λ (z : ℕ). n / z) (sym e)
 
 -- with the digits d in hand
-module _ {ns n unit d : ℕ} (S : Scaled ns n) (u : unit ≡ 10 ^ 9 * 2 ^ shift n) (e : d ≡ closest n unit) where
-  digits-are : d ≡ closest (ns * 2 ^ leadingZeros 64 ns) (10 ^ 9 * 2 ^ shift n)
-  digits-are = e ∙ ap (λ (z : ℕ). closest n z) u ∙ ap (λ (z : ℕ). closest z (10 ^ 9 * 2 ^ shift n)) (S .moved)
+module _ {ns n unit d : ℕ} (S : Scaled ns n) (u : unit ≡ second * 2 ^ shift n) (e : d ≡ closest n unit) where
+  digits-are : d ≡ closest (ns * 2 ^ leadingZeros 64 ns) (second * 2 ^ shift n)
+  digits-are = e ∙ ap (λ (z : ℕ). closest n z) u ∙ ap (λ (z : ℕ). closest z (second * 2 ^ shift n)) (S .moved)
 
   pub digits-le : d ≤ 2 ^ 24
-  digits-le = rw digits-are (kept-high binary32 ns (10 ^ 9) 23 (leadingZeros 64 ns) (shift n) refl (lit< tt) (omega arith) (S .low) (S .high))
+  digits-le = rw digits-are (kept-high binary32 ns second 23 (leadingZeros 64 ns) (shift n) refl (lit< tt) (omega arith) (S .low) (S .high))
 
-  pub digits-kept : d ≡ kept 24 (ns * 2 ^ 149) (10 ^ 9)
-  digits-kept = digits-are ∙ sym (kept-is binary32 ns (10 ^ 9) 23 (leadingZeros 64 ns) (shift n) refl (lit< tt) (omega arith) (S .low) (S .high))
+  pub digits-kept : d ≡ kept 24 (ns * 2 ^ 149) second
+  digits-kept = digits-are ∙ sym (kept-is binary32 ns second 23 (leadingZeros 64 ns) (shift n) refl (lit< tt) (omega arith) (S .low) (S .high))
 
   pub bits-are : (shift n + 149 - leadingZeros 64 ns) * 8388608 + d ≡ secondsBits ns
   unfolding secondsBits
   bits-are =
       let k : shift n + 149 - leadingZeros 64 ns ≡ shift n + (149 - leadingZeros 64 ns) = omega arith in
-      rw (k, digits-are) (sym (round-bits binary32 ns (10 ^ 9) 23 (leadingZeros 64 ns) (shift n) refl (lit< tt) (omega arith) (S .low) (S .high) (omega arith)))
+      rw (k, digits-are) (sym (round-bits binary32 ns second 23 (leadingZeros 64 ns) (shift n) refl (lit< tt) (omega arith) (S .low) (S .high) (omega arith)))

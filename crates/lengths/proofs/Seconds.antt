@@ -14,6 +14,7 @@ use lib.Ieee.Exact.{HasValue, odd-sign}
 use lib.Ieee.Fits.{down-pos, round-fits, round-is}
 use lib.Ieee.Order.{drop, kept}
 use lib.Ieee.Scale.{grid, overflow, round-val}
+use Rattle.tables.specs.Layout.{second}
 use Rattle.lengths.specs.Binary32.{secondsOf, secondsBits, StandsFor, off, Nearest}
 use Rattle.lengths.proofs.NoneNearer.{none-nearer, ties-even}
 use Rattle.lengths.proofs.Rounded.{size-is, value-bits, grid-under}
@@ -22,23 +23,23 @@ use Rattle.lengths.proofs.Scaled.{scaled, bits-are, digits-kept}
 -- ---- bits and back
 pub seconds-back : (ns : ℕ) → ofBits binary32 (secondsBits ns) ≡ secondsOf ns
 unfolding secondsBits
-seconds-back ns = ofBits-toBits binary32 (secondsOf ns) (round-fits binary32 false ns (10 ^ 9))
+seconds-back ns = ofBits-toBits binary32 (secondsOf ns) (round-fits binary32 false ns second)
 
 pub seconds-lt : (ns : ℕ) → secondsBits ns < 2 ^ 32
 unfolding secondsBits
-seconds-lt ns = toBits-lt binary32 (secondsOf ns) (round-fits binary32 false ns (10 ^ 9))
+seconds-lt ns = toBits-lt binary32 (secondsOf ns) (round-fits binary32 false ns second)
 
 -- ---- the value
-stands : (ns : ℕ) → ns < 2 ^ 64 → StandsFor (secondsBits ns) (grid binary32 ns (10 ^ 9))
+stands : (ns : ℕ) → ns < 2 ^ 64 → StandsFor (secondsBits ns) (grid binary32 ns second)
 unfolding secondsOf
-stands ns h = rw seconds-back (round-val binary32 ns (10 ^ 9) (grid-under binary32 ns (10 ^ 9) 64 h (lit≤ tt)))
+stands ns h = rw seconds-back (round-val binary32 ns second (grid-under binary32 ns second 64 h (lit≤ tt)))
 
 -- the last bit is the last digit kept
 low-bit : (k d : ℕ) → (k * 8388608 + d) % 2 ≡ d % 2
 low-bit k d = omega arith
 
 abbrev LastBit : ℕ → Type 0
-LastBit ns = secondsBits ns % 2 ≡ kept 24 (ns * 2 ^ 149) (10 ^ 9) % 2
+LastBit ns = secondsBits ns % 2 ≡ kept 24 (ns * 2 ^ 149) second % 2
 
 last-bit-zero : LastBit 0
 unfolding secondsBits
@@ -57,10 +58,10 @@ last-bit ns h = ⊎-elim none some (eq-zero-or-pos ns)
 
 pub seconds-nearest : (ns : ℕ) → ns < 2 ^ 64 → Nearest ns (secondsBits ns)
 seconds-nearest ns h = record {
-  value = grid binary32 ns (10 ^ 9);
+  value = grid binary32 ns second;
   stands = stands ns h;
-  none-nearer = λ q j l. none-nearer binary32 ns (10 ^ 9) (lit< tt) q j l;
-  ties-even = λ q j l e ne. last-bit ns h ∙ ties-even binary32 ns (10 ^ 9) (lit< tt) q j l e ne;
+  none-nearer = λ q j l. none-nearer binary32 ns second (lit< tt) q j l;
+  ties-even = λ q j l e ne. last-bit ns h ∙ ties-even binary32 ns second (lit< tt) q j l e ne;
 }
 
 -- ---- "no value here is subnormal": the exponent's field is not 0
@@ -135,7 +136,7 @@ units-number f s q k = go (ltb (q * 2 ^ k) (overflow f)) q
 
 seconds-number : (ns : ℕ) → isNan (secondsOf ns) ≡ false
 unfolding secondsOf
-seconds-number ns = rw round-is (units-number binary32 false (kept 24 (ns * 2 ^ 149) (10 ^ 9)) (drop 24 (ns * 2 ^ 149) (10 ^ 9)))
+seconds-number ns = rw round-is (units-number binary32 false (kept 24 (ns * 2 ^ 149) second) (drop 24 (ns * 2 ^ 149) second))
 
 pub seconds-not-nan : (ns : ℕ) → T (not (nanBits binary32 (secondsBits ns)))
 seconds-not-nan ns = rw (nanBits-is, seconds-back, seconds-number) tt

@@ -14,10 +14,11 @@ use Rattle.text.specs.Why.{Why, noDigits}
 use Rattle.text.specs.Nom.{Res, fail, ok, Parser, Span, bytes, isDigit, isNoneOf, runEnd, afterTag, decimal, bind, orNone, tag, take1, digit1, preceded}
 use Rattle.text.proofs.Laws.{decimal-below, and-left, and-right}
 use Rattle.text.proofs.Takes.{when-ok, bind-ok}
+use Rattle.tables.specs.Layout.{second}
 use Rattle.lengths.specs.Duration.{Digits, digits, counted, sideDigits, Length, ns, tooManyDigits, lengthOf, float, durationTitleTag, extinf}
 
 -- digits, and as many zeros as make them nine
-pad : (n : ℕ) → n ≤ sideDigits → 10 ^ n * 10 ^ (9 - n) ≡ 10 ^ 9
+pad : (n : ℕ) → n ≤ sideDigits → 10 ^ n * 10 ^ (9 - n) ≡ second
 pad n h = let z : n + (9 - n) ≡ 9 = omega arith in sym (pow-add 10 n (9 - n)) ∙ ap (λ (k : ℕ). 10 ^ k) z
 
 -- a number that is none of those below n, as the last arm of a `match` knows it, is n or more
@@ -42,12 +43,12 @@ counted-written text at m (digits v n) e =
     let y : n ≡ runEnd isDigit text at - at = cc in
     rw (x, y) (decimal-below text at)
 
--- nine digits at most write a number below 10 ^ 9, also padded to nine
+-- nine digits at most write a number below second, also padded to nine
 module _ (v n : ℕ) (few : n ≤ sideDigits) (h : v < 10 ^ n) where
-  pub side-below : v < 10 ^ 9
+  pub side-below : v < second
   side-below = lt-of-lt-of-le h (pow-le-pow-right (omega arith) few)
 
-  pub padded-below : v * 10 ^ (9 - n) < 10 ^ 9
+  pub padded-below : v * 10 ^ (9 - n) < second
   padded-below = lt-of-lt-of-le (mul-lt-mul-of-pos-right h (one-le-pow (9 - n) 10 (omega arith))) (le-of-eq (pad n few))
 
 -- ---- exact lengths
@@ -60,23 +61,23 @@ module _ (v n w m a : ℕ) (e : lengthOf (digits v n) (some (digits w m)) ≡ ns
   both-few =
       let b = leb n sideDigits in
       let c = leb m sideDigits in
-      let x = length-ns (b && c) (v * 10 ^ 9 + w * 10 ^ (9 - m)) a e .0 in
+      let x = length-ns (b && c) (v * second + w * 10 ^ (9 - m)) a e .0 in
       (leb-true n sideDigits (and-left b c x), leb-true m sideDigits (and-right b c x))
 
-  both-sum : v * 10 ^ 9 + w * 10 ^ (9 - m) ≡ a
-  both-sum = length-ns (leb n sideDigits && leb m sideDigits) (v * 10 ^ 9 + w * 10 ^ (9 - m)) a e .1
+  both-sum : v * second + w * 10 ^ (9 - m) ≡ a
+  both-sum = length-ns (leb n sideDigits && leb m sideDigits) (v * second + w * 10 ^ (9 - m)) a e .1
 
   -- the ns of a length are its seconds times 10^9: its digits, read without the point, are a whole number of 10^-m seconds
-  pub both-exact : a * 10 ^ m ≡ (v * 10 ^ m + w) * 10 ^ 9
+  pub both-exact : a * 10 ^ m ≡ (v * 10 ^ m + w) * second
   both-exact =
       rw (
         ← both-sum,
-        add-mul (v * 10 ^ 9) (w * 10 ^ (9 - m)) (10 ^ m),
+        add-mul (v * second) (w * 10 ^ (9 - m)) (10 ^ m),
         mul-assoc w (10 ^ (9 - m)) (10 ^ m),
         mul-comm (10 ^ (9 - m)) (10 ^ m),
         pad m (both-few .1),
-        add-mul (v * 10 ^ m) w (10 ^ 9),
-        mul-right-comm v (10 ^ 9) (10 ^ m),
+        add-mul (v * 10 ^ m) w second,
+        mul-right-comm v second (10 ^ m),
       )
 
 -- ---- `float`, by what its two rules read
@@ -102,7 +103,7 @@ module _ (text : List ℕ) (at : ℕ) where
 -- ---- an exact length is below 10^9 seconds
 whole-below : (d : Digits) (a : ℕ) → Written d → lengthOf d none ≡ ns a → a < 10 ^ 18
 whole-below (digits v n) a h e =
-    let x = length-ns (leb n sideDigits) (v * 10 ^ 9) a e in
+    let x = length-ns (leb n sideDigits) (v * second) a e in
     omega (arith, x .1, side-below v n (leb-true n sideDigits (x .0)) h)
 
 both-below : (l r : Digits) (a : ℕ) → Written l → Written r → lengthOf l (some r) ≡ ns a → a < 10 ^ 18

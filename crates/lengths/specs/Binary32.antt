@@ -5,11 +5,12 @@ use mathlib.Core.Bool.{false}
 use Prim.Native.Nat.{ℕ, _+_, _-_, _*_, _%_, _^_, _≤_, _<_}
 use lib.Ieee.{Float, binary32, round, toBits, ofBits}
 use lib.Ieee.Exact.{HasValue}
+use Rattle.tables.specs.Layout.{second}
 
 -- "The binary32 is the nearest, ties to an even last bit": ns / 10^9 seconds, rounded once.
 unfoldable pub secondsOf : ℕ → Float
 unfolding round
-secondsOf ns = round binary32 false ns (10 ^ 9)
+secondsOf ns = round binary32 false ns second
 
 -- Word 3 of a clip, "its binary32 bits".
 unfoldable pub secondsBits : ℕ → ℕ
@@ -27,7 +28,7 @@ dist a b = a - b + (b - a)
 
 -- How far v / 2^149 seconds are from ns / 10^9 seconds, times 10^9 * 2^149 so that it is whole.
 abbrev pub off : ℕ → ℕ → ℕ
-off ns v = dist (v * 10 ^ 9) (ns * 2 ^ 149)
+off ns v = dist (v * second) (ns * 2 ^ 149)
 
 -- "The binary32 is the nearest, ties to an even last bit": w stands for a value; no other binary32 is nearer to ns; where another is as near, w's last bit is 0.
 pub record Nearest (ns w : ℕ) : Type 0 where

@@ -4,6 +4,7 @@ use mathlib.Core.Bool.{Bool, true, false, cond, _&&_}
 use mathlib.Core.Option.{Option, none, some}
 use lib.Dec.{leb}
 use Rattle.text.specs.Nom.{Parser, Span, bytes, tag, optTag, optIsNot, take1, digit1, place, opt, preceded, _>>=_, done}
+use Rattle.tables.specs.Layout.{second}
 
 -- what digits write, and how many they are
 pub data Digits : Type 0 where
@@ -27,8 +28,8 @@ pub data Length : Type 0 where
   tooManyDigits : Length
 
 abbrev pub lengthOf : Digits → Option Digits → Length
-lengthOf (digits v n) none = cond (leb n sideDigits) (ns (v * 10 ^ 9)) tooManyDigits
-lengthOf (digits v n) (some (digits w m)) = cond (leb n sideDigits && leb m sideDigits) (ns (v * 10 ^ 9 + w * 10 ^ (9 - m))) tooManyDigits
+lengthOf (digits v n) none = cond (leb n sideDigits) (ns (v * second)) tooManyDigits
+lengthOf (digits v n) (some (digits w m)) = cond (leb n sideDigits && leb m sideDigits) (ns (v * second + w * 10 ^ (9 - m))) tooManyDigits
 
 -- fn float = map_res(pair(take_while1(is_digit), opt(preceded(char('.'), take_while1(is_digit)))), |(left, right)| .. n.parse())
 unfoldable pub float : Parser Length

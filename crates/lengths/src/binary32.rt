@@ -1,6 +1,5 @@
 // The binary32 nearest to a length, by whole numbers alone.
-
-use crate::NS_IN_SECOND;
+use tables::layout::SECOND;
 ghost use mathlib.Core.Path.{_≡_};
 ghost use Prim.Native.Nat.{_*_, _/_, _^_, _<_};
 ghost use lib.Ieee.Nearest.{closest};
@@ -50,10 +49,10 @@ pub fn seconds_bits(ns: u64) -> u64
     }
     let up = u64::leading_zeros(ns);
     let n = shifted(ns, up);
-    let quotient = n / NS_IN_SECOND;
+    let quotient = n / SECOND;
     let highest = TOP_BIT - u64::leading_zeros(quotient);
     let shift = highest - DIGITS_BELOW;
-    let unit = shifted(NS_IN_SECOND, shift);
+    let unit = shifted(SECOND, shift);
     let digits = nearest(n, quotient >> shift, unit);
     let exponent = shift + SMALLEST - up;
     (exponent as u64) * HIDDEN_BIT + digits

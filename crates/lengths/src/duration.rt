@@ -1,10 +1,9 @@
 // parser.rs, `float` and `duration_title_tag`: what stands behind `#EXTINF:`.
-use crate::NS_IN_SECOND;
+use leaves::util;
+use leaves::util::Parsed;
+use tables::layout::SECOND;
 use text::Part;
 use text::Why;
-use text::scan;
-use text::util;
-use text::util::Parsed;
 ghost use mathlib.Core.Path.{_≡_};
 ghost use mathlib.Core.Option.{some};
 ghost use Prim.Native.Nat.{_^_, _≤_, _<_};
@@ -86,7 +85,7 @@ fn ten_to(k: usize) -> u64
         6 => 1_000_000,
         7 => 10_000_000,
         8 => 100_000_000,
-        _ => 1_000_000_000,
+        _ => SECOND,
     }
 }
 
@@ -101,7 +100,7 @@ fn length_of(left: Digits, right: Digits) -> Length
     if SIDE_DIGITS < right.count {
         return Length::TooManyDigits;
     }
-    Length::Ns(left.value * NS_IN_SECOND + right.value * ten_to(SIDE_DIGITS - right.count))
+    Length::Ns(left.value * SECOND + right.value * ten_to(SIDE_DIGITS - right.count))
 }
 
 // Digits, perhaps a point with digits. A point without digits is left standing.

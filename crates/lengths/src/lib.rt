@@ -4,5 +4,3 @@
 
 pub mod duration; // EXTINF: digits to ns, and the title
 pub mod binary32; // the binary32 nearest to a length's seconds
-
-const NS_IN_SECOND: u64 = 1_000_000_000;

@@ -7,11 +7,11 @@ use native.Mathlib.Omega.{arith}
 use lib.ListN.{length, getD, length-take}
 use Rattle.text.specs.Nom.{bytes}
 use Rattle.tables.specs.Refusal.{Refusal, Answer, refused, given, noHeader}
-use Rattle.media.specs.Assembly.{begin, lastOf, tagsOf, Clip, clipCount, keptTags}
+use Rattle.assembly.specs.Assembly.{begin, lastOf, tagsOf, Clip, clipCount, keptTags}
 use Rattle.text.specs.BasicTags.{ExtTag}
 use Rattle.media.specs.Calls.{stepsOf, Read, parseMediaPlaylist, clipsRead, tagsRead}
 use Rattle.media.specs.Edges.{Outcome, outcome, outcomeOf, reading, readings, expected, edges}
-use Rattle.media.proofs.Counts.{count-clips, kept}
+use Rattle.assembly.proofs.Counts.{count-clips, kept}
 
 -- the third edge, with two clips
 abbrev two : List ℕ

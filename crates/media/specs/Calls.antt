@@ -5,29 +5,31 @@ use mathlib.Core.List.{List, [], _∷_, _++_}
 use mathlib.Core.Option.{Option, none, some}
 use lib.Dec.{leb}
 use lib.ListN.{length, take, drop}
-use Rattle.text.specs.Nom.{bytes, runEnd, isOneOf}
+use Rattle.text.specs.Nom.{Parser, runEnd, isMultispace}
 use Rattle.text.specs.Many.{many0, items, stop}
 use Rattle.text.specs.BasicTags.{ExtTag}
-use Rattle.lengths.specs.Duration.{ns, extinf}
+use Rattle.lengths.specs.Duration.{Extinf, ns, extinf}
 use Rattle.lengths.specs.Duration as lengths
 use Rattle.tables.specs.Layout.{clipWords, tagWords}
 use Rattle.tables.specs.Refusal.{Refusal, Answer, refused, given, orRefuse, isMaster, leftOutTag, tooManyDigits, clipTableShort, tagTableShort}
 use Rattle.verdict.specs.Verdict.{Verdict, master, media}
 use Rattle.verdict.specs.Calls.{admitted, andThen, header, verdictOf}
-use Rattle.tags.specs.Tags.{ClipTag, timed, ranged, discontinuity, mapped, Tag, ofHead, ofClip, unknown, comment, uri, leftOut, Taken, took, step}
-use Rattle.media.specs.Assembly.{Head, State, begin, lastOf, Clip, clipsOf, tagsOf, headOf, clipCount, keptTags}
-use Rattle.media.specs.Words.{clipsWords, tagsWords}
+use Rattle.tags.specs.Tags.{timedOf, Tag, ofHead, ofClip, unknown, comment, uri, leftOut, Taken, took}
+use Rattle.tags.specs.Tags as tags
+use Rattle.assembly.specs.Assembly.{Head, State, begin, lastOf, Clip, clipsOf, tagsOf, headOf, clipCount, keptTags}
+use Rattle.assembly.specs.Words.{clipsWords, tagsWords}
 
 -- "White space (space, tab, CR, LF) is skipped after `#EXTM3U`": where the first step begins
 unfoldable pub firstStep : List ℕ → ℕ
-firstStep text = runEnd (isOneOf (bytes " \t\r\n")) text (length header)
+firstStep text = runEnd isMultispace text (length header)
 
--- pair(complete(pair(m3u_tag, multispace0)), parse_media_playlist_tags): the steps, and the place where they stop
-unfoldable pub stepsOf : List ℕ → List Taken
-stepsOf text = items (many0 step text (firstStep text))
+-- pair(complete(pair(m3u_tag, multispace0)), parse_media_playlist_tags): the steps, and the place where they stop, by any rule of a step
+module _ (step : Parser Taken) where
+  abbrev pub stepsBy : List ℕ → List Taken
+  stepsBy text = items (many0 step text (firstStep text))
 
-unfoldable pub stopOf : List ℕ → ℕ
-stopOf text = stop (many0 step text (firstStep text))
+  abbrev pub stopBy : List ℕ → ℕ
+  stopBy text = stop (many0 step text (firstStep text))
 
 -- 4, at the deciding `#`
 abbrev pub unlessMaster : {A : Type 0} → Verdict → Answer A → Answer A
@@ -35,16 +37,14 @@ unlessMaster (master hash) answer = refused isMaster hash
 unlessMaster media answer = answer
 
 -- 5: "the reading meets a left-out tag"; 6: "an EXTINF that reads has over 9 digits before or after the point"
-abbrev pub refusedClip : ClipTag → Option Refusal
-refusedClip (timed (extinf (ns x) title)) = none
-refusedClip (timed (extinf lengths.tooManyDigits title)) = some tooManyDigits
-refusedClip (ranged r) = none
-refusedClip discontinuity = none
-refusedClip (mapped m) = none
+abbrev pub refusedExtinf : Option Extinf → Option Refusal
+refusedExtinf none = none
+refusedExtinf (some (extinf (ns x) title)) = none
+refusedExtinf (some (extinf lengths.tooManyDigits title)) = some tooManyDigits
 
 abbrev pub refusedTag : Tag → Option Refusal
 refusedTag (ofHead t) = none
-refusedTag (ofClip t) = refusedClip t
+refusedTag (ofClip t) = refusedExtinf (timedOf t)
 refusedTag (unknown t) = none
 refusedTag (comment t) = none
 refusedTag (uri u) = none
@@ -69,10 +69,6 @@ pub data Read : Type 0 where
 abbrev pub readFrom : State → ℕ → Read
 readFrom s n = read (headOf s) (clipCount s) (keptTags s) n
 
--- a pass over the steps from a place on: what it meets first, or what there is to give
-unfoldable pub counted : List ℕ → ℕ → Answer Read
-counted text at = unlessMet (items (many0 step text at)) (given (readFrom (lastOf begin (items (many0 step text at))) (stop (many0 step text at))))
-
 -- 7, 8: by what the reading counted
 abbrev pub unlessShort : {A : Type 0} → State → ℕ → ℕ → Answer A → Answer A
 unlessShort s clipRoom tagRoom answer =
@@ -80,28 +76,53 @@ unlessShort s clipRoom tagRoom answer =
     (orRefuse (leb (keptTags s * tagWords) tagRoom) tagTableShort 0
     answer)
 
-unfoldable pub parseMediaPlaylist : List ℕ → ℕ → ℕ → Answer Read
-parseMediaPlaylist text clipRoom tagRoom =
+-- what steps that stop at n come to: the answer, and the tags that are kept
+abbrev pub answerOf : List ℕ → List Taken → ℕ → ℕ → ℕ → Answer Read
+answerOf text steps n clipRoom tagRoom =
     andThen (admitted text)
     (unlessMaster (verdictOf text)
-    (unlessMet (stepsOf text)
-    (unlessShort (lastOf begin (stepsOf text)) clipRoom tagRoom
-    (given (readFrom (lastOf begin (stepsOf text)) (stopOf text))))))
+    (unlessMet steps
+    (unlessShort (lastOf begin steps) clipRoom tagRoom
+    (given (readFrom (lastOf begin steps) n)))))
 
--- the clips and the tags that are kept
+abbrev pub keptOf : List Taken → List ExtTag
+keptOf steps = take (keptTags (lastOf begin steps)) (tagsOf steps)
+
+-- ---- the call's own steps
+unfoldable pub stepsOf : List ℕ → List Taken
+stepsOf text = stepsBy tags.step text
+
+unfoldable pub stopOf : List ℕ → ℕ
+stopOf text = stopBy tags.step text
+
+unfoldable pub parseMediaPlaylist : List ℕ → ℕ → ℕ → Answer Read
+parseMediaPlaylist text clipRoom tagRoom = answerOf text (stepsOf text) (stopOf text) clipRoom tagRoom
+
 unfoldable pub clipsRead : List ℕ → List Clip
 clipsRead text = clipsOf begin (stepsOf text)
 
 unfoldable pub tagsRead : List ℕ → List ExtTag
-tagsRead text = take (keptTags (lastOf begin (stepsOf text))) (tagsOf (stepsOf text))
+tagsRead text = keptOf (stepsOf text)
 
 -- a lent table afterwards: "After a read the words past the last record are unchanged"; "No lent memory changes" where the call is refused
 abbrev pub laid : {A : Type 0} → Answer A → List ℕ → List ℕ → List ℕ
 laid (refused r p) ws entry = entry
 laid (given a) ws entry = ws ++ drop (length ws) entry
 
--- all that the call says: its answer, and each word of both tables after it
-pub record ParsedAs {R : Type 0} (view : R → Answer Read) (text clips₀ tags₀ clips tags : List ℕ) (r : R) : Type 0 where
-  pub answered : view r ≡ parseMediaPlaylist text (length clips₀) (length tags₀)
-  pub clips-after : clips ≡ laid (parseMediaPlaylist text (length clips₀) (length tags₀)) (clipsWords (clipsRead text)) clips₀
-  pub tags-after : tags ≡ laid (parseMediaPlaylist text (length clips₀) (length tags₀)) (tagsWords (tagsRead text)) tags₀
+-- all that a call says which gives so many clips and tags: its answer, and each word of both tables after it
+pub record ReadingAs {R : Type 0} (view : R → Answer Read) (answer : Answer Read) (clipsGiven : List Clip) (tagsGiven : List ExtTag) (clips₀ tags₀ clips tags : List ℕ) (r : R) : Type 0 where
+  pub answered : view r ≡ answer
+  pub clips-after : clips ≡ laid answer (clipsWords clipsGiven) clips₀
+  pub tags-after : tags ≡ laid answer (tagsWords tagsGiven) tags₀
+
+abbrev pub ParsedAs : {R : Type 0} → (R → Answer Read) → List ℕ → List ℕ → List ℕ → List ℕ → List ℕ → R → Type 0
+ParsedAs view text clips₀ tags₀ clips tags r = ReadingAs view (parseMediaPlaylist text (length clips₀) (length tags₀)) (clipsRead text) (tagsRead text) clips₀ tags₀ clips tags r
+
+-- the same of a call by any rule of a step
+module _ (step : Parser Taken) where
+  abbrev pub answerBy : List ℕ → ℕ → ℕ → Answer Read
+  answerBy text clipRoom tagRoom = answerOf text (stepsBy step text) (stopBy step text) clipRoom tagRoom
+
+  abbrev pub ParsedBy : {R : Type 0} → (R → Answer Read) → List ℕ → List ℕ → List ℕ → List ℕ → List ℕ → R → Type 0
+  ParsedBy view text clips₀ tags₀ clips tags r =
+      ReadingAs view (answerBy text (length clips₀) (length tags₀)) (clipsOf begin (stepsBy step text)) (keptOf (stepsBy step text)) clips₀ tags₀ clips tags r

@@ -13,10 +13,10 @@ use Rattle.attributes.specs.Pairs.{quoted, unquoted, keyValuePair, nextPair, ke
 use Rattle.attributes.specs.ExtMap.{extmap}
 use Rattle.lengths.specs.Duration.{counted, float, durationTitleTag}
 use Rattle.tables.specs.Refusal.{Answer, refused, given, noHeader, isMaster, leftOutTag}
-use Rattle.verdict.specs.Verdict.{masterTag, mediaTag, playlistTag, segmentTag, isMasterPlaylistTagLine, firstSaid, verdictFrom}
+use Rattle.verdict.specs.Verdict.{masterKind, mediaKind, playlistKind, segmentKind, isMasterPlaylistTagLine, firstSaid, verdictFrom}
 use Rattle.verdict.specs.Calls.{admitted, verdictOf}
 use Rattle.tags.specs.Tags as tags
-use Rattle.media.specs.Assembly.{head, emptyHead, segment, emptySegment, next, Clip, clip, lastOf, clipsOf, tagsOf}
+use Rattle.assembly.specs.Assembly.{head, emptyHead, segment, emptySegment, next, Clip, clip, lastOf, clipsOf, tagsOf}
 use Rattle.media.specs.Calls.{firstStep, stepsOf, stopOf, unlessMet, Read, read, parseMediaPlaylist, clipsRead, tagsRead}
 
 -- all that a reading gives: head, counts and stopping place; the clips; the kept tags
@@ -83,5 +83,5 @@ expected =
     ∷ []
 
 pub edges : readings texts ≡ expected
-unfolding readings reading parseMediaPlaylist clipsRead tagsRead firstStep stepsOf stopOf unlessMet next lastOf clipsOf tagsOf tags.step tags.mediaPlaylistTag tags.mediaSegmentTag tags.playlistTag tags.segmentTag tags.otherTag admitted verdictOf verdictFrom firstSaid isMasterPlaylistTagLine masterTag mediaTag playlistTag segmentTag durationTitleTag float counted extmap keyValuePairs nextPair keyValuePair quoted unquoted inserted extTag commentTag playlistType consumeLine parsed number numberOrZero byteRangeVal spells utf8End utf8Char row2 row3 row4 byteIn many0 manyTurns isDigit begins tagged afterTag run runEnd decimal
+unfolding readings reading parseMediaPlaylist clipsRead tagsRead firstStep stepsOf stopOf unlessMet next lastOf clipsOf tagsOf tags.step tags.mediaPlaylistTag tags.mediaSegmentTag tags.playlistTag tags.segmentTag tags.otherTag admitted verdictOf verdictFrom firstSaid isMasterPlaylistTagLine masterKind mediaKind playlistKind segmentKind durationTitleTag float counted extmap keyValuePairs nextPair keyValuePair quoted unquoted inserted extTag commentTag playlistType consumeLine parsed number numberOrZero byteRangeVal spells utf8End utf8Char row2 row3 row4 byteIn many0 manyTurns isDigit begins tagged afterTag run runEnd decimal
 edges = refl

@@ -1,20 +1,19 @@
 // The reading of a media playlist (parser.rs, `parse_media_playlist`): step by step to head and clips, which go to the lent tables.
 // One pass counts, so that a refused call has touched nothing; a second one fills.
-use crate::head::Head;
 use crate::reading::Counted;
+use assembly::head::Head;
 use tables::Refusal;
 use tables::record;
-use text::scan;
 use verdict::Admission;
 use verdict::lines::Verdict;
+ghost use mathlib.Core.Path.{_≡_};
+ghost use Rattle.tags.specs.Tags.{step};
 ghost use Rattle.media.specs.Calls as rule;
 ghost use Rattle.media.specs.Answers.{parseAnswer};
+ghost use Rattle.media.specs.Inside.Passes as inside;
+ghost use Rattle.media.specs.Inside.Passes.{countedOf};
 
-pub mod head; // version, target, sequences, type, marks
-pub mod segment; // a clip's tags by value
-pub mod state; // where a reading is and what it has counted; a clip by value
-pub mod words; // the words of a record
-pub mod making; // the clip in the making, as words
+pub mod state; // where a reading is and what it has counted
 pub mod reading; // the two passes
 
 // What is given: the head, how many clips and kept unknown tags there are, and where the reading stopped.
@@ -30,20 +29,26 @@ pub enum ParseAnswer {
     Given(Read),
 }
 
+// Refusals 1 to 6, or what there is to give.
+fn weigh(text: &[u8]) -> Counted
+    ensures { λ r. ⌜ countedOf r ≡ inside.weighed step (now (text .entry)) ⌝ }
+{
+    match verdict::admit(text) {
+        Admission::Refused(r, place) => return Counted::Refused(r, place),
+        Admission::Admitted => {}
+    }
+    match verdict::verdict_of(text) {
+        Verdict::Master(hash) => return Counted::Refused(Refusal::IsMaster, hash),
+        Verdict::Media => {}
+    }
+    reading::count(text)
+}
+
 // Refusals 1, 2, 3, 4, then 5 or 6 whichever the reading meets first, 7, 8. A refused call leaves both tables as they were.
 pub fn parse_media_playlist(text: &[u8], clips: &mut [u64], tags: &mut [u64]) -> ParseAnswer
     ensures { λ r. ⌜ rule.ParsedAs parseAnswer (now (text .entry)) (now (clips .entry)) (now (tags .entry)) (now (clips .exit)) (now (tags .exit)) r ⌝ }
 {
-    match verdict::admit(text) {
-        Admission::Refused(r, place) => return ParseAnswer::Refused(r, place),
-        Admission::Admitted => {}
-    }
-    match verdict::verdict_of(text) {
-        Verdict::Master(hash) => return ParseAnswer::Refused(Refusal::IsMaster, hash),
-        Verdict::Media => {}
-    }
-    let at = scan::multispace0(text, 7);
-    match reading::count(text, at) {
+    match weigh(text) {
         Counted::Refused(r, place) => ParseAnswer::Refused(r, place),
         Counted::Read(last) => {
             if !record::clips_fit(clips, last.clips) {
@@ -52,7 +57,7 @@ pub fn parse_media_playlist(text: &[u8], clips: &mut [u64], tags: &mut [u64]) ->
             if !record::tags_fit(tags, last.tags) {
                 return ParseAnswer::Refused(Refusal::TagTableShort, 0);
             }
-            reading::fill(text, at, clips, tags, last.tags);
+            reading::fill(text, clips, tags, last.tags);
             ParseAnswer::Given(last)
         }
     }

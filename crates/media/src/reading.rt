@@ -1,65 +1,35 @@
 // Two passes over the steps: the first counts and refuses, the second fills the lent tables in order.
 use crate::Read;
-use crate::head::Head;
-use crate::making::Making;
 use crate::state::Counts;
 use crate::state::State;
-use crate::words;
-use lengths::duration::Length;
+use assembly::head::Head;
+use assembly::words;
+use leaves::basic_tags::ExtTag;
+use steps::common;
+use steps::common::Line;
+use steps::common::LineEnd;
 use tables::Refusal;
 use tables::record;
-use tags::ClipTag;
 use tags::HeadTag;
 use tags::Tag;
 use tags::TagRes;
-use tags::common;
-use tags::common::Line;
-use tags::common::LineEnd;
 use text::Span;
-use text::scan;
 ghost use mathlib.Core.Path.{_≡_};
-ghost use Prim.Native.Nat.{_+_, _*_, _-_, _≤_, _<_, _^_};
-ghost use lib.ListN.{length, take};
-ghost use lib.Seq.{sets};
-ghost use Rattle.text.specs.Many.{many0, items};
-ghost use Rattle.tables.specs.Layout.{clipWords, tagWords, flagLimit};
+ghost use mathlib.Core.Option.{none};
+ghost use Prim.Native.Nat.{_+_, _<_, _^_};
 ghost use Rattle.text.specs.Answers.{spanOf};
-ghost use Rattle.tags.specs.Tags.{step};
-ghost use Rattle.tags.specs.Tags as tags;
+ghost use Rattle.leaves.specs.Answers.{extTagOf};
+ghost use Rattle.tags.specs.Tags.{unknown, uri, step};
 ghost use Rattle.tags.specs.Answers.{tagOf};
-ghost use Rattle.media.specs.Assembly as assembly;
-ghost use Rattle.media.specs.Words as words;
-ghost use Rattle.media.specs.Calls as rule;
-ghost use Rattle.media.specs.Answers.{metOf, onSays, countSays, countedOf, countsSeen, makingSeen, stepSays};
+ghost use Rattle.media.specs.Calls.{firstStep};
+ghost use Rattle.media.specs.Inside.Passes as rule;
+ghost use Rattle.media.specs.Inside.Passes.{stateSeen, countedOf};
 
-// What a tag is refused for.
-pub enum Met {
-    Nothing,
-    Refused(Refusal),
-}
-
-fn refused_for(t: Tag) -> Met
-    ensures { λ r. ⌜ metOf r ≡ rule.refusedTag (tagOf t) ⌝ }
+// Where the first step begins: behind `#EXTM3U` and the blanks after it.
+fn first_step(text: &[u8]) -> usize
+    ensures { λ r. ⌜ r ≡ firstStep (now (text .entry)) ⌝ }
 {
-    match t {
-        Tag::LeftOut(_) => Met::Refused(Refusal::LeftOutTag),
-        Tag::Clip(c) => match c {
-            ClipTag::Timed(e) => {
-                let length = e.duration;
-                match length {
-                    Length::TooManyDigits => Met::Refused(Refusal::TooManyDigits),
-                    Length::Ns(_) => Met::Nothing,
-                }
-            }
-            ClipTag::Ranged(_) => Met::Nothing,
-            ClipTag::Discontinuity => Met::Nothing,
-            ClipTag::Mapped(_) => Met::Nothing,
-        },
-        Tag::Head(_) => Met::Nothing,
-        Tag::Unknown(_) => Met::Nothing,
-        Tag::Comment(_) => Met::Nothing,
-        Tag::Uri(_) => Met::Nothing,
-    }
+    blocks::multispace0(text, 7)
 }
 
 // What a step of the first pass came to: the reading stops, or is refused, or goes on with the next counts, and perhaps with something told of the head.
@@ -70,11 +40,13 @@ pub enum CountStep {
     Told(HeadTag, Counts),
 }
 
-// The tags of the head are handed on: the head stands beside the counts, and is made anew by them alone.
+// A tag that is no EXTINF: a left-out one is refused, and one of the head is handed on, as the head stands beside the counts.
 fn counted_on(t: Tag, next: Counts) -> CountStep
-    ensures { λ r. ⌜ onSays r (tagOf t) next ⌝ }
+    requires { ⌜ rule.timedIn (tagOf t) ≡ none ⌝ }
+    ensures { λ r. ⌜ rule.onSays r (tagOf t) next ⌝ }
 {
     match t {
+        Tag::LeftOut(_) => CountStep::Refused(Refusal::LeftOutTag),
         Tag::Head(h) => CountStep::Told(h, next),
         _ => CountStep::Next(next),
     }
@@ -83,31 +55,28 @@ fn counted_on(t: Tag, next: Counts) -> CountStep
 impl Counts {
     // One step of the first pass: a tag, and the blanks after it.
     pub(crate) fn step(self, text: &[u8]) -> CountStep
-        requires { ⌜ (self .clips ≤ self .at) × (self .first + self .pending ≤ self .at) × (self .at ≤ length (now text)) ⌝ }
-        ensures { λ r. ⌜ countSays r self (now (text .entry)) ⌝ }
+        requires { ⌜ rule.Counting self ⌝ }
+        ensures { λ r. ⌜ rule.countSays step r self (now (text .entry)) ⌝ }
     {
         let mut c = self;
         match common::common_end(text, c.at) {
             LineEnd::Uri(after) => {
-                let next = scan::multispace0(text, after);
+                let next = blocks::multispace0(text, after);
                 CountStep::Next(c.after_uri(next))
             }
             LineEnd::Extinf(too_many, after) => {
                 if too_many {
                     return CountStep::Refused(Refusal::TooManyDigits);
                 }
-                c.at = scan::multispace0(text, after);
+                c.at = blocks::multispace0(text, after);
                 CountStep::Next(c)
             }
-            LineEnd::Other => match tags::media_playlist_tag(text, c.at) {
+            LineEnd::Other => match steps::media_playlist_tag(text, c.at) {
                 TagRes::Fail(_) => CountStep::Stop,
-                TagRes::Ok(t, after) => match refused_for(t) {
-                    Met::Nothing => {
-                        let next = scan::multispace0(text, after);
-                        counted_on(t, c.next(t, next))
-                    }
-                    Met::Refused(r) => CountStep::Refused(r),
-                },
+                TagRes::Ok(t, after) => {
+                    let next = blocks::multispace0(text, after);
+                    counted_on(t, c.next(t, next))
+                }
             },
         }
     }
@@ -119,10 +88,10 @@ pub enum Counted {
     Read(Read),
 }
 
-pub(crate) fn count(text: &[u8], at: usize) -> Counted
-    requires { ⌜ at ≤ length (now text) ⌝ }
-    ensures { λ r. ⌜ countedOf r ≡ rule.counted (now (text .entry)) at ⌝ }
+pub(crate) fn count(text: &[u8]) -> Counted
+    ensures { λ r. ⌜ countedOf r ≡ rule.firstPass step (now (text .entry)) ⌝ }
 {
+    let at = first_step(text);
     let mut c = Counts::new(at);
     let mut head = Head::empty();
     loop {
@@ -144,33 +113,6 @@ pub(crate) fn count(text: &[u8], at: usize) -> Counted
     }
 }
 
-// Stores the clip that a URI ends.
-fn put_clip(clips: &mut [u64], c: Counts, m: Making, uri: Span)
-    requires { ⌜ m .«range_flags» + m .«break_flags» + m .«map_flags» < flagLimit ⌝ }
-    ensures { λ _. ⌜ ((s : assembly.State) → countsSeen c ≡ assembly.countsOf s → makingSeen m ≡ words.segmentWords (assembly.segmentOf s) → c .clips * clipWords + length (words.clipsWords (assembly.clipIn s (tags.uri (spanOf uri)))) ≤ length (now (clips .entry)) → now (clips .exit) ≡ sets (now (clips .entry)) (c .clips * clipWords) (words.clipsWords (assembly.clipIn s (tags.uri (spanOf uri))))) ⌝ }
-{
-    let values = m.clip_words(uri, c.first, c.pending);
-    record::store_clip(clips, c.clips, &values);
-}
-
-// Stores what a tag adds to the tables: a URI the clip in the making, an unknown tag itself if a clip follows it (`kept` such tags do).
-fn put(clips: &mut [u64], tags: &mut [u64], c: Counts, m: Making, t: Tag, kept: usize)
-    requires { ⌜ (c .first + c .pending < 2 ^ 64) × (m .«range_flags» + m .«break_flags» + m .«map_flags» < flagLimit) ⌝ }
-    ensures { λ _. ⌜ ((s : assembly.State) → countsSeen c ≡ assembly.countsOf s → makingSeen m ≡ words.segmentWords (assembly.segmentOf s) → c .clips * clipWords + length (words.clipsWords (assembly.clipIn s (tagOf t))) ≤ length (now (clips .entry)) → kept * tagWords ≤ length (now (tags .entry)) → (now (clips .exit) ≡ sets (now (clips .entry)) (c .clips * clipWords) (words.clipsWords (assembly.clipIn s (tagOf t)))) × (now (tags .exit) ≡ sets (now (tags .entry)) ((c .first + c .pending) * tagWords) (words.tagsWords (take (kept - (c .first + c .pending)) (assembly.tagIn (tagOf t)))))) ⌝ }
-{
-    match t {
-        Tag::Uri(uri) => put_clip(clips, c, m, uri),
-        Tag::Unknown(tag) => {
-            let met = c.first + c.pending;
-            if met < kept {
-                let values = words::tag_words(tag);
-                record::store_tag(tags, met, &values);
-            }
-        }
-        _ => {}
-    }
-}
-
 // What a step of the second pass came to.
 pub enum Step {
     Stop,
@@ -178,35 +120,63 @@ pub enum Step {
 }
 
 impl State {
+    // Stores the clip that a URI ends.
+    fn put_clip(self, clips: &mut [u64], u: Span)
+        ensures { λ _. ⌜ now (clips .exit) ≡ rule.clipsPut (stateSeen self) (uri (spanOf u)) (now (clips .entry)) ⌝ }
+    {
+        let c = self.counts;
+        let m = self.making;
+        let values = m.clip_words(u, c.first, c.pending);
+        record::store_clip(clips, c.clips, &values);
+    }
+
+    // Stores an unknown tag if a clip follows it: `kept` such tags there are.
+    fn put_tag(self, tags: &mut [u64], t: ExtTag, kept: usize)
+        requires { ⌜ self .counts .first + self .counts .pending < 2 ^ 64 ⌝ }
+        ensures { λ _. ⌜ now (tags .exit) ≡ rule.tagsPut (stateSeen self) kept (unknown (extTagOf t)) (now (tags .entry)) ⌝ }
+    {
+        let met = self.counts.first + self.counts.pending;
+        if met < kept {
+            let values = words::tag_words(t);
+            record::store_tag(tags, met, &values);
+        }
+    }
+
+    // Stores what a tag adds to the tables: a URI its clip, an unknown tag itself.
+    fn put(self, clips: &mut [u64], tags: &mut [u64], t: Tag, kept: usize)
+        requires { ⌜ self .counts .first + self .counts .pending < 2 ^ 64 ⌝ }
+        ensures { λ _. ⌜ now (clips .exit) ≡ rule.clipsPut (stateSeen self) (tagOf t) (now (clips .entry)) ⌝ }
+        ensures { λ _. ⌜ now (tags .exit) ≡ rule.tagsPut (stateSeen self) kept (tagOf t) (now (tags .entry)) ⌝ }
+    {
+        match t {
+            Tag::Uri(u) => self.put_clip(clips, u),
+            Tag::Unknown(t) => self.put_tag(tags, t, kept),
+            _ => {}
+        }
+    }
+
     // One step of the second pass: a tag, and the blanks after it. What the tag adds to the tables is stored.
     fn step(self, text: &[u8], clips: &mut [u64], tags: &mut [u64], kept: usize) -> Step
-        requires { ⌜ (self .counts .clips ≤ self .counts .at) × (self .counts .first + self .counts .pending ≤ self .counts .at) × (self .counts .at ≤ length (now text)) ⌝ }
-        requires { ⌜ self .making .«range_flags» + self .making .«break_flags» + self .making .«map_flags» < flagLimit ⌝ }
-        ensures { λ r. ⌜ stepSays r self (now (text .entry)) kept (now (clips .entry)) (now (tags .entry)) (now (clips .exit)) (now (tags .exit)) ⌝ }
+        requires { ⌜ rule.Counting (self .counts) ⌝ }
+        ensures { λ r. ⌜ rule.stepSays step r self (now (text .entry)) kept (now (clips .entry)) (now (tags .entry)) (now (clips .exit)) (now (tags .exit)) ⌝ }
     {
-        let mut counts = self.counts;
-        let making = self.making;
-        match common::common_line(text, counts.at) {
-            Line::Uri(uri, after) => {
-                put_clip(clips, counts, making, uri);
-                let next = scan::multispace0(text, after);
-                let counts = counts.after_uri(next);
-                let making = Making::empty();
-                Step::Next(State { counts, making })
+        let at = self.counts.at;
+        match common::common_line(text, at) {
+            Line::Uri(u, after) => {
+                self.put_clip(clips, u);
+                let next = blocks::multispace0(text, after);
+                Step::Next(self.after_uri(next))
             }
             Line::Extinf(e, after) => {
-                counts.at = scan::multispace0(text, after);
-                let making = making.timed(e);
-                Step::Next(State { counts, making })
+                let next = blocks::multispace0(text, after);
+                Step::Next(self.after_extinf(e, next))
             }
-            Line::Other => match tags::media_playlist_tag(text, counts.at) {
+            Line::Other => match steps::media_playlist_tag(text, at) {
                 TagRes::Fail(_) => Step::Stop,
                 TagRes::Ok(t, after) => {
-                    put(clips, tags, counts, making, t, kept);
-                    let next = scan::multispace0(text, after);
-                    let counts = counts.next(t, next);
-                    let making = making.next(t);
-                    Step::Next(State { counts, making })
+                    self.put(clips, tags, t, kept);
+                    let next = blocks::multispace0(text, after);
+                    Step::Next(self.next(t, next))
                 }
             },
         }
@@ -214,13 +184,11 @@ impl State {
 }
 
 // The second pass: each clip to the table of clips, and the first `kept` unknown tags to theirs.
-pub(crate) fn fill(text: &[u8], at: usize, clips: &mut [u64], tags: &mut [u64], kept: usize)
-    requires { ⌜ (at ≤ length (now text)) × (length (words.clipsWords (assembly.clipsOf assembly.begin (items (many0 step (now text) at)))) ≤ length (now clips)) × (kept * tagWords ≤ length (now tags)) ⌝ }
-    ensures { λ _. ⌜ (now (clips .exit) ≡ sets (now (clips .entry)) 0 (words.clipsWords (assembly.clipsOf assembly.begin (items (many0 step (now (text .entry)) at))))) × (now (tags .exit) ≡ sets (now (tags .entry)) 0 (words.tagsWords (take kept (assembly.tagsOf (items (many0 step (now (text .entry)) at)))))) ⌝ }
+pub(crate) fn fill(text: &[u8], clips: &mut [u64], tags: &mut [u64], kept: usize)
+    requires { ⌜ rule.Fillable step (now text) kept (now clips) (now tags) ⌝ }
+    ensures { λ _. ⌜ rule.Filled step (now (text .entry)) kept (now (clips .entry)) (now (tags .entry)) (now (clips .exit)) (now (tags .exit)) ⌝ }
 {
-    let counts = Counts::new(at);
-    let making = Making::empty();
-    let mut s = State { counts, making };
+    let mut s = State::new(first_step(text));
     loop {
         match s.step(text, clips, tags, kept) {
             Step::Stop => {

@@ -1,103 +1,103 @@
--- The groups of a playlist, as they are written: the head, unknown tags, a clip, the clips, the whole. Rests on the laws of lines. Assumes nothing.
-use mathlib.Core.Path.{_≡_}
-use mathlib.Core.Bool.{Bool, cond}
+-- The groups of a playlist, one behind the other: the head, a clip, records one by one, the whole. Rests on the laws of lines. Assumes nothing.
+use mathlib.Core.Path.{_≡_, refl, ap, _∙_}
+use mathlib.Core.Bool.{Bool, true, false, cond}
 use mathlib.Core.List.{List, [], _∷_, _++_, map}
 use mathlib.Core.Option.{Option}
-use Prim.Native.Nat.{ℕ, _+_, _≤_}
-use lib.Dec.{eqb}
+use Prim.Native.Nat.{ℕ, _+_, _-_, _≤_, _<_, min}
+use native.Mathlib.Nat.{min-eq-left, min-eq-right, min-zero}
+use native.Mathlib.Omega.{arith}
+use lib.Dec.{eqb, leb}
+use lib.ListN.{length, take, drop, drop-of-length-le}
+use lib.Seq.{take-all, take-nil}
+use borrow.Author.Tests.{leb-true, leb-false}
 use Rattle.text.specs.Nom.{Span}
 use Rattle.text.specs.Util.{ByteRange}
-use Rattle.text.specs.Lines.{unlines}
 use Rattle.attributes.specs.ExtMap.{Map}
-use Rattle.media.specs.Assembly.{Head, head, segment, Clip, clip}
 use Rattle.tables.specs.Table.{listed}
-use Rattle.tables.proofs.Listed.{listed-run}
+use Rattle.tables.proofs.Listed.{listed-left, listed-over, listed-none, listed-length, listed-drop, listed-take}
+use Rattle.assembly.specs.Assembly.{Head, segment, Clip, clip}
 use Rattle.records.specs.Records.{clipAt, tagAt, clipsAt, tagsAt}
-use Rattle.records.specs.Same.{shown}
-use Rattle.playlist.specs.Lines.{headerLine, versionLine, independentSegmentsLine, targetDurationLine, mediaSequenceLine}
-use Rattle.playlist.specs.Lines.{discontinuitySequenceLine, playlistTypeLine, iFramesOnlyLine, byteRangeLine, discontinuityLine, extinfLine, uriLine, endListLine}
-use Rattle.playlist.specs.Lines.{lineBytes, lineIf, lineWhere, lineUnlessZero, typeText, mapLineOf, tagLineOf, titleText}
-use Rattle.playlist.specs.Lines.{restLines, headLines, clipLines, clipsLines, endLines, playlistLines, playlistText}
+use Rattle.text.specs.Spans.{shown}
+use Rattle.playlist.specs.Lines.{headerLine, versionLine, independentSegmentsLine, targetDurationLine, mediaSequenceLine, discontinuitySequenceLine, iFramesOnlyLine, byteRangeLine, discontinuityLine, extinfLine, uriLine, endListLine, lineBytes, lineIf, lineWhere, lineUnlessZero, linesText, typeLineOf, mapLineOf, tagLineOf, titleText, restLines, headLines, clipLines, clipsLines, endLines, playlistLines, playlistText}
 use Rattle.playlist.specs.Calls.{writtenText}
-use Rattle.playlist.proofs.Laying.{joined}
-use Rattle.playlist.proofs.Text.{one-line, more-lines, lines-append, line-where, line-unless-zero}
+use Rattle.playlist.specs.Inside.Texts.{tagsText, runText, clipText, clipsText}
+use Rattle.playlist.proofs.Lines.{no-line, one-line, more-lines, lines-append, line-where, line-unless-zero}
+
+-- ---- entries of a list that are asked for, as many as there are
+listed-part : {A : Type 0} (at : ℕ → A) (f n m : ℕ) → take n (drop f (listed at 0 m)) ≡ listed at f (min n (m - f))
+listed-part at f n m = go (leb f m) (leb n (m - f)) refl refl
+  where
+    go : (a b : Bool) → leb f m ≡ a → leb n (m - f) ≡ b → take n (drop f (listed at 0 m)) ≡ listed at f (min n (m - f))
+    go true true p q =
+        let l : n ≤ m - f = leb-true n (m - f) q in
+        let e : m - f ≡ n + (m - f - n) = omega arith in
+        rw (listed-drop at f m (leb-true f m p), min-eq-left l) (ap (λ (k : ℕ). take n (listed at f k)) e ∙ listed-take at f n (m - f - n))
+    go true false p q =
+        let l : m - f < n = leb-false n (m - f) q in
+        rw (listed-drop at f m (leb-true f m p), min-eq-right {n = m - f} {m = n} (omega arith)) (take-all n (listed at f (m - f)) (omega (arith, listed-length at f (m - f))))
+    go false b p q =
+        let l : m < f = leb-false f m p in
+        let z : m - f ≡ 0 = omega arith in
+        rw (drop-of-length-le (listed at 0 m) {i = f} (omega (arith, listed-length at 0 m)), take-nil n, z, min-zero n, listed-none at f)
 
 -- ---- a head
--- its lines behind the target
-abbrev pub restPieces : List ℕ → Head → List (List ℕ)
-restPieces text (head v d m c p e i n) =
-    cond (eqb m 0) [] (lineBytes (mediaSequenceLine m))
-    ∷ cond (eqb c 0) [] (lineBytes (discontinuitySequenceLine c))
-    ∷ unlines lineBytes (lineIf (λ t. playlistTypeLine (typeText text t)) p)
-    ∷ cond i (lineBytes iFramesOnlyLine) []
-    ∷ []
+module _ (text : List ℕ) (hd : Head) where
+  -- its lines behind the target
+  pub rest-text : linesText (restLines text hd)
+      ≡ cond (eqb (hd .sequence) 0) [] (lineBytes (mediaSequenceLine (hd .sequence)))
+      ++ (cond (eqb (hd .discontinuities) 0) [] (lineBytes (discontinuitySequenceLine (hd .discontinuities)))
+      ++ (linesText (lineIf (typeLineOf text) (hd .type))
+      ++ cond (hd .iFrames) (lineBytes iFramesOnlyLine) []))
+  rest-text =
+      let frames = lineWhere iFramesOnlyLine (hd .iFrames) in
+      let types = lineIf (typeLineOf text) (hd .type) in
+      let second = lineUnlessZero discontinuitySequenceLine (hd .discontinuities) in
+      rw (
+        lines-append (lineUnlessZero mediaSequenceLine (hd .sequence)) (second ++ (types ++ frames)),
+        lines-append second (types ++ frames),
+        lines-append types frames,
+        line-unless-zero mediaSequenceLine (hd .sequence),
+        line-unless-zero discontinuitySequenceLine (hd .discontinuities),
+        line-where iFramesOnlyLine (hd .iFrames),
+      )
 
-pub rest-text : (text : List ℕ) (h : Head) → unlines lineBytes (restLines text h) ≡ joined (restPieces text h)
-rest-text text (head v d m c p e i n) =
-    let types = lineIf (λ t. playlistTypeLine (typeText text t)) p in
-    rw (
-      lines-append (lineUnlessZero mediaSequenceLine m) (lineUnlessZero discontinuitySequenceLine c ++ (types ++ lineWhere iFramesOnlyLine i)),
-      lines-append (lineUnlessZero discontinuitySequenceLine c) (types ++ lineWhere iFramesOnlyLine i),
-      lines-append types (lineWhere iFramesOnlyLine i),
-      line-unless-zero mediaSequenceLine m,
-      line-unless-zero discontinuitySequenceLine c,
-      line-where iFramesOnlyLine i,
-    )
+  pub head-text : linesText (headLines text hd)
+      ≡ lineBytes headerLine
+      ++ (linesText (lineIf versionLine (hd .version))
+      ++ (cond (hd .independent) (lineBytes independentSegmentsLine) []
+      ++ (lineBytes (targetDurationLine (hd .target))
+      ++ linesText (restLines text hd))))
+  unfolding headLines
+  head-text =
+      let versions = lineIf versionLine (hd .version) in
+      let marks = lineWhere independentSegmentsLine (hd .independent) in
+      let target = targetDurationLine (hd .target) ∷ restLines text hd in
+      rw (
+        more-lines headerLine (versions ++ (marks ++ target)),
+        lines-append versions (marks ++ target),
+        lines-append marks target,
+        line-where independentSegmentsLine (hd .independent),
+        more-lines (targetDurationLine (hd .target)) (restLines text hd),
+      )
 
-abbrev pub headPieces : List ℕ → Head → List (List ℕ)
-headPieces text (head v d m c p e i n) =
-    lineBytes headerLine
-    ∷ unlines lineBytes (lineIf versionLine v)
-    ∷ cond n (lineBytes independentSegmentsLine) []
-    ∷ lineBytes (targetDurationLine d)
-    ∷ unlines lineBytes (restLines text (head v d m c p e i n))
-    ∷ []
-
-pub head-text : (text : List ℕ) (h : Head) → unlines lineBytes (headLines text h) ≡ joined (headPieces text h)
-unfolding headLines
-head-text text (head v d m c p e i n) =
-    let versions = lineIf versionLine v in
-    let rest = restLines text (head v d m c p e i n) in
-    rw (
-      more-lines headerLine (versions ++ (lineWhere independentSegmentsLine n ++ (targetDurationLine d ∷ rest))),
-      lines-append versions (lineWhere independentSegmentsLine n ++ (targetDurationLine d ∷ rest)),
-      lines-append (lineWhere independentSegmentsLine n) (targetDurationLine d ∷ rest),
-      line-where independentSegmentsLine n,
-      more-lines (targetDurationLine d) rest,
-    )
-
--- ---- clips
--- n unknown tags from tag k on
-abbrev pub tagsText : List ℕ → List ℕ → ℕ → ℕ → List ℕ
-tagsText text tags k n = unlines lineBytes (map (tagLineOf text) (listed (tagAt tags) k n))
-
--- a clip of m unknown tags
-abbrev pub clipText : List ℕ → List ℕ → ℕ → Clip → List ℕ
-clipText text tags m c = unlines lineBytes (clipLines text (tagsAt tags m) c)
-
-abbrev pub clipPieces : List ℕ → List ℕ → Clip → List (List ℕ)
-clipPieces text tags (clip u (segment l t r d m) f n) =
-    unlines lineBytes (lineIf (mapLineOf text) m)
-    ∷ unlines lineBytes (lineIf byteRangeLine r)
-    ∷ cond d (lineBytes discontinuityLine) []
-    ∷ tagsText text tags f n
-    ∷ lineBytes (extinfLine l (titleText text t))
-    ∷ lineBytes (uriLine (shown text u))
-    ∷ []
-
-pub clip-text : (text tags : List ℕ) (count : ℕ) (u : Span) (l : ℕ) (t : Option Span) (r : Option ByteRange) (d : Bool) (m : Option Map) (f n : ℕ) → f + n ≤ count
-    → clipText text tags count (clip u (segment l t r d m) f n) ≡ joined (clipPieces text tags (clip u (segment l t r d m) f n))
+-- ---- a clip
+pub clip-text : (text tags : List ℕ) (count : ℕ) (u : Span) (l : ℕ) (t : Option Span) (r : Option ByteRange) (d : Bool) (m : Option Map) (f n : ℕ)
+    → clipText text tags count (clip u (segment l t r d m) f n)
+    ≡ linesText (lineIf (mapLineOf text) m)
+    ++ (linesText (lineIf byteRangeLine r)
+    ++ (cond d (lineBytes discontinuityLine) []
+    ++ (runText text tags count f n
+    ++ (lineBytes (extinfLine l (titleText text t))
+    ++ lineBytes (uriLine (shown text u))))))
 unfolding clipLines
-clip-text text tags count u l t r d m f n h =
-    let maps = lineIf (mapLineOf text) m in
+clip-text text tags count u l t r d m f n =
     let ranges = lineIf byteRangeLine r in
     let marks = lineWhere discontinuityLine d in
-    let others = map (tagLineOf text) (listed (tagAt tags) f n) in
+    let others = map (tagLineOf text) (take n (drop f (tagsAt tags count))) in
     let e = extinfLine l (titleText text t) in
     let w = uriLine (shown text u) in
     rw (
-      listed-run (tagAt tags) f n count h,
-      lines-append maps (ranges ++ (marks ++ (others ++ (e ∷ w ∷ [])))),
+      lines-append (lineIf (mapLineOf text) m) (ranges ++ (marks ++ (others ++ (e ∷ w ∷ [])))),
       lines-append ranges (marks ++ (others ++ (e ∷ w ∷ []))),
       lines-append marks (others ++ (e ∷ w ∷ [])),
       lines-append others (e ∷ w ∷ []),
@@ -106,22 +106,31 @@ clip-text text tags count u l t r d m f n h =
       one-line w,
     )
 
--- n clips from clip k on
-abbrev pub clipsText : List ℕ → List ℕ → ℕ → List ℕ → ℕ → ℕ → List ℕ
-clipsText text tags m clips k n = unlines lineBytes (clipsLines text (tagsAt tags m) (listed (clipAt clips) k n))
+-- a run: what there is of it, from tag f on
+pub run-text : (text tags : List ℕ) (m f n : ℕ) → runText text tags m f n ≡ tagsText text tags f (min n (m - f))
+run-text text tags m f n = ap (λ l. linesText (map (tagLineOf text) l)) (listed-part (tagAt tags) f n m)
+
+-- ---- records one by one: those that are left from record k up to record e
+module _ (text tags : List ℕ) where
+  pub tags-next : (k e : ℕ) → k < e → tagsText text tags k (e - k) ≡ lineBytes (tagLineOf text (tagAt tags k)) ++ tagsText text tags (k + 1) (e - (k + 1))
+  tags-next k e h = ap (λ l. linesText (map (tagLineOf text) l)) (listed-left (tagAt tags) k e h) ∙ more-lines _ _
+
+  pub tags-over : (k e : ℕ) → e ≤ k → tagsText text tags k (e - k) ≡ []
+  tags-over k e h = ap (λ l. linesText (map (tagLineOf text) l)) (listed-over (tagAt tags) k e h) ∙ no-line
+
+  module _ (m : ℕ) (clips : List ℕ) where
+    pub clips-next : (k e : ℕ) → k < e → clipsText text tags m clips k (e - k) ≡ clipText text tags m (clipAt clips k) ++ clipsText text tags m clips (k + 1) (e - (k + 1))
+    unfolding clipsLines
+    clips-next k e h = ap (λ l. linesText (clipsLines text (tagsAt tags m) l)) (listed-left (clipAt clips) k e h) ∙ lines-append (clipLines text (tagsAt tags m) (clipAt clips k)) _
+
+    pub clips-over : (k e : ℕ) → e ≤ k → clipsText text tags m clips k (e - k) ≡ []
+    unfolding clipsLines
+    clips-over k e h = ap (λ l. linesText (clipsLines text (tagsAt tags m) l)) (listed-over (clipAt clips) k e h) ∙ no-line
 
 -- ---- all of it
-module _ (text clips : List ℕ) (n : ℕ) (tags : List ℕ) (m : ℕ) where
-  abbrev pub playlistPieces : Head → List (List ℕ)
-  playlistPieces (head v d s c p e i b) =
-      unlines lineBytes (headLines text (head v d s c p e i b))
-      ∷ clipsText text tags m clips 0 n
-      ∷ cond e (lineBytes endListLine) []
-      ∷ []
-
-  pub written-text : (h : Head) → writtenText text h clips n tags m ≡ joined (playlistPieces h)
-  unfolding writtenText playlistText playlistLines
-  written-text (head v d s c p e i b) =
-      let lines = clipsLines text (tagsAt tags m) (clipsAt clips n) in
-      let h = head v d s c p e i b in
-      rw (lines-append (headLines text h) (lines ++ endLines h), lines-append lines (endLines h), line-where endListLine e)
+pub written-text : (text : List ℕ) (h : Head) (clips : List ℕ) (n : ℕ) (tags : List ℕ) (m : ℕ) → writtenText text h clips n tags m
+    ≡ linesText (headLines text h) ++ (clipsText text tags m clips 0 n ++ cond (h .ended) (lineBytes endListLine) [])
+unfolding writtenText playlistText playlistLines
+written-text text h clips n tags m =
+    let lines = clipsLines text (tagsAt tags m) (clipsAt clips n) in
+    rw (lines-append (headLines text h) (lines ++ endLines h), lines-append lines (endLines h), line-where endListLine (h .ended))

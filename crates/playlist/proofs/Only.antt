@@ -5,7 +5,7 @@ use mathlib.Core.List.{List}
 use Rattle.text.proofs.Only.{Only, only-by}
 use Rattle.tables.specs.Refusal.{Answer, refused, given}
 use Rattle.tables.proofs.Refusals.{named, named-back}
-use Rattle.media.specs.Assembly.{Head}
+use Rattle.assembly.specs.Assembly.{Head}
 use Rattle.playlist.specs.declared.WriteAnswer.{WriteAnswer}
 use Rattle.playlist.specs.declared.WriteAnswer.the-variants as writeᵛ
 use Rattle.playlist.specs.Answers.{writeAnswer}

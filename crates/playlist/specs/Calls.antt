@@ -6,10 +6,10 @@ use lib.Dec.{leb}
 use lib.ListN.{length}
 use Rattle.tables.specs.Refusal.{Answer, given, orRefuse, textTooLong, brokenTable, outputShort}
 use Rattle.verdict.specs.Calls.{textLimit}
-use Rattle.media.specs.Assembly.{Head}
+use Rattle.assembly.specs.Assembly.{Head}
 use Rattle.media.specs.Calls.{laid}
 use Rattle.records.specs.Records.{clipsAt, tagsAt}
-use Rattle.records.specs.Rule9.{keepsRule}
+use Rattle.rule9.specs.Rule9.{keepsRule}
 use Rattle.playlist.specs.Lines.{playlistText}
 
 module _ (text : List ℕ) (h : Head) (clips : List ℕ) (n : ℕ) (tags : List ℕ) (m : ℕ) where

@@ -11,8 +11,8 @@ use Rattle.text.specs.BasicTags.{ExtTag, ext, PlaylistType, event, vod, other}
 use Rattle.text.specs.Lines.{unlines}
 use Rattle.attributes.specs.ExtMap.{Map, extMap}
 use Rattle.digits.specs.Digits.{numberText, lengthText}
-use Rattle.media.specs.Assembly.{Head, head, segment, Clip, clip}
-use Rattle.records.specs.Same.{shown, shownPart}
+use Rattle.assembly.specs.Assembly.{Head, segment, Clip, clip}
+use Rattle.text.specs.Spans.{shown, shownPart}
 
 -- a line of the text, its parts by their bytes
 pub data Line : Type 0 where
@@ -96,22 +96,25 @@ typeText text event = bytes "EVENT"
 typeText text vod = bytes "VOD"
 typeText text (other s) = shown text s
 
+abbrev pub typeLineOf : List ℕ → PlaylistType → Line
+typeLineOf text t = playlistTypeLine (typeText text t)
+
 -- MediaPlaylist::write_to from if self.media_sequence != 0 to if self.i_frames_only: the lines behind the target
 abbrev pub restLines : List ℕ → Head → List Line
-restLines text (head v d m c p e i n) =
-    lineUnlessZero mediaSequenceLine m
-    ++ (lineUnlessZero discontinuitySequenceLine c
-    ++ (lineIf (λ t. playlistTypeLine (typeText text t)) p
-    ++ lineWhere iFramesOnlyLine i))
+restLines text hd =
+    lineUnlessZero mediaSequenceLine (hd .sequence)
+    ++ (lineUnlessZero discontinuitySequenceLine (hd .discontinuities)
+    ++ (lineIf (typeLineOf text) (hd .type)
+    ++ lineWhere iFramesOnlyLine (hd .iFrames)))
 
 -- MediaPlaylist::write_to up to the segments
 unfoldable pub headLines : List ℕ → Head → List Line
-headLines text (head v d m c p e i n) =
+headLines text hd =
     (headerLine ∷ [])
-    ++ (lineIf versionLine v
-    ++ (lineWhere independentSegmentsLine n
-    ++ ((targetDurationLine d ∷ [])
-    ++ restLines text (head v d m c p e i n))))
+    ++ (lineIf versionLine (hd .version)
+    ++ (lineWhere independentSegmentsLine (hd .independent)
+    ++ ((targetDurationLine (hd .target) ∷ [])
+    ++ restLines text hd)))
 
 abbrev pub mapLineOf : List ℕ → Map → Line
 mapLineOf text (extMap u r l) = mapLine (shown text u) r
@@ -140,12 +143,15 @@ clipsLines text tags (c ∷ cs) = clipLines text tags c ++ clipsLines text tags 
 
 -- if self.end_list { writeln!(w, "#EXT-X-ENDLIST")?; }
 abbrev pub endLines : Head → List Line
-endLines (head v d m c p e i n) = lineWhere endListLine e
+endLines hd = lineWhere endListLine (hd .ended)
 
 -- MediaPlaylist::write_to
 unfoldable pub playlistLines : List ℕ → Head → List Clip → List ExtTag → List Line
 playlistLines text h clips tags = headLines text h ++ (clipsLines text tags clips ++ endLines h)
 
 -- and its bytes
+abbrev pub linesText : List Line → List ℕ
+linesText = unlines lineBytes
+
 unfoldable pub playlistText : List ℕ → Head → List Clip → List ExtTag → List ℕ
-playlistText text h clips tags = unlines lineBytes (playlistLines text h clips tags)
+playlistText text h clips tags = linesText (playlistLines text h clips tags)

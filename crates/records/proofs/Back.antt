@@ -16,9 +16,9 @@ use Rattle.text.specs.BasicTags.{ExtTag, ext}
 use Rattle.attributes.specs.ExtMap.{Map, extMap}
 use Rattle.tables.specs.Layout as layout
 use Rattle.tables.specs.Table.{listed, clipWord, tagWord, hasFlag}
-use Rattle.media.specs.Assembly.{segment, Clip, clip}
-use Rattle.media.specs.Words.{partWords, rangeWords, mapWords, flagsOf, clipWordsOf, tagWordsOf, clipsWords, tagsWords}
-use Rattle.media.proofs.ReadBack.{clip-back, tag-back}
+use Rattle.assembly.specs.Assembly.{segment, Clip, clip}
+use Rattle.assembly.specs.Words.{partWords, rangeWords, mapWords, flagsOf, clipWordsOf, tagWordsOf, clipsWords, tagsWords}
+use Rattle.assembly.proofs.ReadBack.{clip-back, tag-back}
 use Rattle.records.specs.Records.{optional, partAt, rangeAt, mapAt, clipAt, tagAt, clipsAt, tagsAt}
 
 -- ---- parts

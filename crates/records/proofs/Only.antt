@@ -1,22 +1,20 @@
--- No second clip fits `clip_at`, and no second tag `tag_at`: what each says has a way back to it. `keeps_rule`'s promise names its answer. Assumes nothing.
+-- No second clip fits `clip_at`, and no second tag `tag_at`: what each says has a way back to it. Assumes nothing.
 use Prim.Native.Nat.{ℕ}
-use mathlib.Core.Path.{_≡_, refl, sym, ap, _∙_}
-use mathlib.Core.Bool.{Bool}
+use mathlib.Core.Path.{_≡_, refl, ap}
 use mathlib.Core.List.{List}
-use Rattle.text.specs.Answers.{extTagOf}
-use Rattle.text.specs.declared.basic_tags.ExtTag as extᵈ
-use Rattle.text.proofs.Only.{Only, no-second, span-only, part-only, byte-range-only, ext-tag-only}
+use Rattle.leaves.specs.Answers.{extTagOf}
+use Rattle.leaves.specs.declared.basic_tags.ExtTag as extᵈ
+use Rattle.text.proofs.Only.{Only, no-second, span-only, part-only}
+use Rattle.leaves.proofs.Only.{byte-range-only, ext-tag-only}
 use Rattle.attributes.specs.declared.ext_map.OptRange.the-variants as rangeᵛ
-use Rattle.attributes.specs.Answers.{rangeAt}
+use Rattle.attributes.specs.Answers.{optRangeOf}
 use Rattle.attributes.proofs.Only.{map-only}
-use Rattle.media.specs.declared.segment.SegmentMap.the-variants as mapᵛ
-use Rattle.media.specs.declared.state.Clip as clipᵈ
-use Rattle.media.specs.Answers.{segmentMapOf, segmentSeen, clipSeen}
-use Rattle.media.specs.Assembly.{Head}
+use Rattle.assembly.specs.declared.segment.SegmentMap.the-variants as mapᵛ
+use Rattle.assembly.specs.declared.Clip as clipᵈ
+use Rattle.assembly.specs.Answers.{segmentMapOf, segmentSeen, clipSeen}
 use Rattle.records.specs.Records.{clipAt, tagAt}
-use Rattle.records.specs.Rule9.{keepsRule}
 
-range-only : Only rangeAt
+range-only : Only optRangeOf
 range-only rangeᵛ.Absent rangeᵛ.Absent e = refl
 range-only rangeᵛ.Absent (rangeᵛ.Present s) e = cc
 range-only (rangeᵛ.Present r) rangeᵛ.Absent e = cc
@@ -52,6 +50,3 @@ module _ (t : List ℕ) (k : ℕ) where
 
   pub tag-once : (a b : extᵈ.ExtTag) → extTagOf a ≡ tagAt t k → extTagOf b ≡ tagAt t k → a ≡ b
   tag-once = no-second extTagOf ext-tag-only (tagAt t k)
-
-pub rule-once : (text : List ℕ) (h : Head) (clips : List ℕ) (n : ℕ) (tags : List ℕ) (m : ℕ) (a b : Bool) → a ≡ keepsRule text h clips n tags m → b ≡ keepsRule text h clips n tags m → a ≡ b
-rule-once text h clips n tags m a b p q = p ∙ sym q

@@ -7,8 +7,9 @@ use mathlib.Core.Option.{none, some}
 use lib.Dec.{eqb}
 use borrow.Author.Tests.{eq-eqb, eqb-true}
 use Rattle.text.specs.Util.{range}
-use Rattle.records.specs.Same.{eventShown, vodShown, otherShown, headShown, tagShown, mapShown, clipShown, listShown, sameOption, sameAll, sameBytes, sameMark, sameType, sameHead, sameRange, sameMap, sameTag, sameClip, sameList}
-use Rattle.records.proofs.Kept.{left-holds, right-holds}
+use Rattle.text.specs.Spans.{sameAll, sameBytes}
+use Rattle.text.proofs.Laws.{and-left, and-right}
+use Rattle.records.specs.Same.{eventShown, vodShown, otherShown, headShown, tagShown, mapShown, clipShown, listShown, sameOption, sameMark, sameType, sameHead, sameRange, sameMap, sameTag, sameClip, sameList}
 
 -- ---- the same as itself
 abbrev pub Reflexive : {A : Type 0} → (A → A → Bool) → Type 0
@@ -98,7 +99,7 @@ module _ {A : Type 0} (same : A → A → Bool) (h : Tells same) where
   all-equal [] (b ∷ ys) e = cc
   all-equal (a ∷ xs) [] e = cc
   all-equal (a ∷ xs) (b ∷ ys) e =
-      let p = h a b (left-holds _ _ e) in let q = all-equal xs ys (right-holds (same a b) _ e) in
+      let p = h a b (and-left _ _ e) in let q = all-equal xs ys (and-right (same a b) _ e) in
       λ i. p i ∷ q i
 
 bytes-equal : Tells sameBytes
@@ -123,63 +124,63 @@ type-equal (otherShown a) (otherShown b) e = ap otherShown (bytes-equal a b e)
 
 head-equal : Tells sameHead
 head-equal (headShown v d m c p e i n) (headShown w f o b q g j k) z =
-    let z₁ = right-holds (sameOption eqb v w) _ z in
-    let z₂ = right-holds (eqb d f) _ z₁ in
-    let z₃ = right-holds (eqb m o) _ z₂ in
-    let z₄ = right-holds (eqb c b) _ z₃ in
-    let z₅ = right-holds (sameOption sameType p q) _ z₄ in
-    let z₆ = right-holds (sameMark e g) _ z₅ in
-    let version = option-equal eqb eqb-true v w (left-holds _ _ z) in
-    let target = eqb-true d f (left-holds _ _ z₁) in
-    let sequence = eqb-true m o (left-holds _ _ z₂) in
-    let discontinuities = eqb-true c b (left-holds _ _ z₃) in
-    let type = option-equal sameType type-equal p q (left-holds _ _ z₄) in
-    let end = mark-equal e g (left-holds _ _ z₅) in
-    let frames = mark-equal i j (left-holds _ _ z₆) in
-    let independent = mark-equal n k (right-holds (sameMark i j) _ z₆) in
+    let z₁ = and-right (sameOption eqb v w) _ z in
+    let z₂ = and-right (eqb d f) _ z₁ in
+    let z₃ = and-right (eqb m o) _ z₂ in
+    let z₄ = and-right (eqb c b) _ z₃ in
+    let z₅ = and-right (sameOption sameType p q) _ z₄ in
+    let z₆ = and-right (sameMark e g) _ z₅ in
+    let version = option-equal eqb eqb-true v w (and-left _ _ z) in
+    let target = eqb-true d f (and-left _ _ z₁) in
+    let sequence = eqb-true m o (and-left _ _ z₂) in
+    let discontinuities = eqb-true c b (and-left _ _ z₃) in
+    let type = option-equal sameType type-equal p q (and-left _ _ z₄) in
+    let end = mark-equal e g (and-left _ _ z₅) in
+    let frames = mark-equal i j (and-left _ _ z₆) in
+    let independent = mark-equal n k (and-right (sameMark i j) _ z₆) in
     λ x. headShown (version x) (target x) (sequence x) (discontinuities x) (type x) (end x) (frames x) (independent x)
 
 range-equal : Tells sameRange
 range-equal (range n o) (range m p) z =
-    let length = eqb-true n m (left-holds _ _ z) in
-    let offset = option-equal eqb eqb-true o p (right-holds (eqb n m) _ z) in
+    let length = eqb-true n m (and-left _ _ z) in
+    let offset = option-equal eqb eqb-true o p (and-right (eqb n m) _ z) in
     λ x. range (length x) (offset x)
 
 map-equal : Tells sameMap
 map-equal (mapShown u r) (mapShown w s) z =
-    let uri = bytes-equal u w (left-holds _ _ z) in
-    let range = option-equal sameRange range-equal r s (right-holds (sameBytes u w) _ z) in
+    let uri = bytes-equal u w (and-left _ _ z) in
+    let range = option-equal sameRange range-equal r s (and-right (sameBytes u w) _ z) in
     λ x. mapShown (uri x) (range x)
 
 tag-equal : Tells sameTag
 tag-equal (tagShown a r) (tagShown b s) z =
-    let name = bytes-equal a b (left-holds _ _ z) in
-    let rest = option-equal sameBytes bytes-equal r s (right-holds (sameBytes a b) _ z) in
+    let name = bytes-equal a b (and-left _ _ z) in
+    let rest = option-equal sameBytes bytes-equal r s (and-right (sameBytes a b) _ z) in
     λ x. tagShown (name x) (rest x)
 
 clip-equal : Tells sameClip
 clip-equal (clipShown u l t r d m f n ts) (clipShown w k s q e o g j us) z =
-    let z₁ = right-holds (sameBytes u w) _ z in
-    let z₂ = right-holds (eqb l k) _ z₁ in
-    let z₃ = right-holds (sameOption sameBytes t s) _ z₂ in
-    let z₄ = right-holds (sameOption sameRange r q) _ z₃ in
-    let z₅ = right-holds (sameMark d e) _ z₄ in
-    let z₆ = right-holds (sameOption sameMap m o) _ z₅ in
-    let z₇ = right-holds (eqb f g) _ z₆ in
-    let uri = bytes-equal u w (left-holds _ _ z) in
-    let length = eqb-true l k (left-holds _ _ z₁) in
-    let title = option-equal sameBytes bytes-equal t s (left-holds _ _ z₂) in
-    let range = option-equal sameRange range-equal r q (left-holds _ _ z₃) in
-    let discontinuity = mark-equal d e (left-holds _ _ z₄) in
-    let map = option-equal sameMap map-equal m o (left-holds _ _ z₅) in
-    let first = eqb-true f g (left-holds _ _ z₆) in
-    let count = eqb-true n j (left-holds _ _ z₇) in
-    let tags = all-equal sameTag tag-equal ts us (right-holds (eqb n j) _ z₇) in
+    let z₁ = and-right (sameBytes u w) _ z in
+    let z₂ = and-right (eqb l k) _ z₁ in
+    let z₃ = and-right (sameOption sameBytes t s) _ z₂ in
+    let z₄ = and-right (sameOption sameRange r q) _ z₃ in
+    let z₅ = and-right (sameMark d e) _ z₄ in
+    let z₆ = and-right (sameOption sameMap m o) _ z₅ in
+    let z₇ = and-right (eqb f g) _ z₆ in
+    let uri = bytes-equal u w (and-left _ _ z) in
+    let length = eqb-true l k (and-left _ _ z₁) in
+    let title = option-equal sameBytes bytes-equal t s (and-left _ _ z₂) in
+    let range = option-equal sameRange range-equal r q (and-left _ _ z₃) in
+    let discontinuity = mark-equal d e (and-left _ _ z₄) in
+    let map = option-equal sameMap map-equal m o (and-left _ _ z₅) in
+    let first = eqb-true f g (and-left _ _ z₆) in
+    let count = eqb-true n j (and-left _ _ z₇) in
+    let tags = all-equal sameTag tag-equal ts us (and-right (eqb n j) _ z₇) in
     λ x. clipShown (uri x) (length x) (title x) (range x) (discontinuity x) (map x) (first x) (count x) (tags x)
 
 pub same-equal : Tells sameList
 unfolding sameList
 same-equal (listShown h cs) (listShown k ds) z =
-    let head = head-equal h k (left-holds _ _ z) in
-    let clips = all-equal sameClip clip-equal cs ds (right-holds (sameHead h k) _ z) in
+    let head = head-equal h k (and-left _ _ z) in
+    let clips = all-equal sameClip clip-equal cs ds (and-right (sameHead h k) _ z) in
     λ x. listShown (head x) (clips x)

@@ -10,7 +10,7 @@ use Rattle.text.specs.BasicTags.{ExtTag, ext}
 use Rattle.attributes.specs.ExtMap.{Map, extMap}
 use Rattle.tables.specs.Layout as layout
 use Rattle.tables.specs.Table.{listed, clipWord, tagWord, hasFlag}
-use Rattle.media.specs.Assembly.{segment, Clip, clip}
+use Rattle.assembly.specs.Assembly.{segment, Clip, clip}
 
 abbrev pub optional : {A : Type 0} → Bool → A → Option A
 optional true a = some a

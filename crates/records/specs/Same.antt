@@ -1,25 +1,17 @@
 -- "Two lists are the same when heads and clips agree, spans by the bytes they show, words 13 and 14 aside." Assumes nothing.
-use Prim.Native.Nat.{ℕ, _-_}
-use mathlib.Core.Bool.{Bool, true, false, not, _&&_, _||_}
-use mathlib.Core.List.{List, [], _∷_, map}
+use Prim.Native.Nat.{ℕ}
+use mathlib.Core.Bool.{Bool, true, false, not, _&&_}
+use mathlib.Core.List.{List, map}
 use mathlib.Core.Option.{Option, none, some}
 use lib.Dec.{eqb}
 use lib.ListN.{take, drop}
-use Rattle.text.specs.Nom.{Span, span}
 use Rattle.text.specs.Util.{ByteRange, range}
 use Rattle.text.specs.BasicTags.{ExtTag, ext, PlaylistType, event, vod, other}
 use Rattle.attributes.specs.ExtMap.{Map, extMap}
-use Rattle.media.specs.Assembly.{Head, head, segment, Clip, clip}
+use Rattle.assembly.specs.Assembly.{Head, segment, Clip, clip}
+use Rattle.text.specs.Spans.{shown, shownPart, sameAll, sameBytes}
 
 -- ---- a list with its spans shown
--- the bytes that a span shows
-abbrev pub shown : List ℕ → Span → List ℕ
-shown text (span a b) = take (b - a) (drop a text)
-
-abbrev pub shownPart : List ℕ → Option Span → Option (List ℕ)
-shownPart text none = none
-shownPart text (some s) = some (shown text s)
-
 pub data ShownType : Type 0 where
   eventShown vodShown : ShownType
   otherShown : List ℕ → ShownType
@@ -38,7 +30,7 @@ shownTypeIf text none = none
 shownTypeIf text (some t) = some (shownType text t)
 
 abbrev pub shownHead : List ℕ → Head → ShownHead
-shownHead text (head v d m c p e i n) = headShown v d m c (shownTypeIf text p) e i n
+shownHead text hd = headShown (hd .version) (hd .target) (hd .sequence) (hd .discontinuities) (shownTypeIf text (hd .type)) (hd .ended) (hd .iFrames) (hd .independent)
 
 -- an unknown tag: name, rest if present
 pub data ShownTag : Type 0 where
@@ -76,15 +68,6 @@ module _ {A : Type 0} (same : A → A → Bool) where
   sameOption none (some b) = false
   sameOption (some a) none = false
   sameOption (some a) (some b) = same a b
-
-  unfoldable pub sameAll : List A → List A → Bool
-  sameAll [] [] = true
-  sameAll [] (b ∷ ys) = false
-  sameAll (a ∷ xs) [] = false
-  sameAll (a ∷ xs) (b ∷ ys) = same a b && sameAll xs ys
-
-abbrev pub sameBytes : List ℕ → List ℕ → Bool
-sameBytes a b = sameAll eqb a b
 
 abbrev pub sameMark : Bool → Bool → Bool
 sameMark true b = b

@@ -9,7 +9,7 @@ use Rattle.tables.specs.Refusal.{Answer, refused, given, clipTableShort, tagTab
 use Rattle.tables.proofs.Refusals.{front-or}
 use Rattle.verdict.specs.Verdict.{Verdict, master, media}
 use Rattle.verdict.specs.Calls.{admitted, andThen, verdictOf}
-use Rattle.media.specs.Assembly.{begin, lastOf, clipCount, keptTags}
+use Rattle.assembly.specs.Assembly.{begin, lastOf, clipCount, keptTags}
 use Rattle.media.specs.Calls.{stepsOf, stopOf, unlessMaster, unlessMet, Read, readFrom, parseMediaPlaylist}
 use Rattle.media.proofs.Answered.{front-met}
 

@@ -5,7 +5,7 @@ use mathlib.Core.Path.{_≡_, ap, sym, _∙_}
 use mathlib.Core.List.{List, map}
 use lib.ListN.{length}
 use Rattle.tables.specs.Refusal.{Answer}
-use Rattle.media.specs.Assembly.{Head, begin, lastOf, headOf, clipCount, keptTags}
+use Rattle.assembly.specs.Assembly.{Head, begin, lastOf, headOf, clipCount, keptTags}
 use Rattle.media.specs.Calls.{stepsOf, unlessMet, clipsRead, tagsRead}
 use Rattle.records.specs.Same.{shownList}
 use Rattle.roundtrip.proofs.Said.{takenSays, lineSays}

@@ -15,9 +15,10 @@ use Rattle.lengths.specs.Duration.{ns, extinf}
 use Rattle.lengths.specs.Duration as lengths
 use Rattle.tables.specs.Refusal.{Refusal, leftOutTag, tooManyDigits}
 use Rattle.tags.specs.Tags.{HeadTag, version, targetDuration, mediaSequence, discontinuitySequence, typed, iFramesOnly, independentSegments, endList, ClipTag, timed, ranged, discontinuity, mapped, Tag, ofHead, ofClip, unknown, comment, uri, leftOut, Taken, took}
-use Rattle.media.specs.Assembly.{Head, head, headNext, Segment, segment, segmentNext, State, state, begin, next, clipIn, tagIn, lastOf, clipsOf, tagsOf, headOf, clipCount, keptTags}
-use Rattle.media.proofs.Counts.{metTags, next-tags, count-clips}
-use Rattle.records.specs.Same.{shownPart, ShownType, ShownHead, headShown, shownHead, ShownTag, tagShown, shownTag, ShownMap, mapShown, shownMap, ShownClip, clipShown, shownClip}
+use Rattle.assembly.specs.Assembly.{Head, head, headNext, Segment, segment, segmentNext, State, begin, next, clip, clipIn, tagIn, lastOf, clipsOf, tagsOf, headOf, clipCount, keptTags}
+use Rattle.assembly.proofs.Counts.{metTags, next-tags, count-clips}
+use Rattle.text.specs.Spans.{shownPart}
+use Rattle.records.specs.Same.{ShownType, ShownHead, headShown, shownHead, ShownTag, tagShown, shownTag, ShownMap, mapShown, shownMap, ShownClip, clipShown, shownClip}
 use Rattle.roundtrip.proofs.Said.{Said, saysVersion, saysTarget, saysSequence, saysDiscontinuitySequence, saysType, saysIFrames, saysIndependent, saysEnd, saysDiscontinuity, saysNothing, saysLeftOut, saysLength, saysRange, saysMap, saysUnknown, saysUri, headSays, clipSays, tagSays, takenSays}
 
 -- ---- what a saying does
@@ -149,12 +150,12 @@ shownSegment text (segment l t r d m) = making l (shownPart text t) r d (shownMa
 -- what is kept stays kept
 kept-next : (s : State) (t : Tag) → keptTags s ≤ keptTags (next s t)
 unfolding next
-kept-next (state h s c f p) (ofHead t) = omega arith
-kept-next (state h s c f p) (ofClip t) = omega arith
-kept-next (state h s c f p) (unknown t) = omega arith
-kept-next (state h s c f p) (comment t) = omega arith
-kept-next (state h s c f p) (uri u) = omega arith
-kept-next (state h s c f p) (leftOut x) = omega arith
+kept-next s (ofHead t) = omega arith
+kept-next s (ofClip t) = omega arith
+kept-next s (unknown t) = omega arith
+kept-next s (comment t) = omega arith
+kept-next s (uri u) = omega arith
+kept-next s (leftOut x) = omega arith
 
 kept-last : (s : State) (ts : List Taken) → keptTags s ≤ keptTags (lastOf s ts)
 unfolding lastOf
@@ -171,20 +172,20 @@ run pre xs f p k e l =
 module _ (text : List ℕ) where
   -- a state with its spans shown; `tags` are the tags so far
   abbrev pub shownState : List ExtTag → State → SaidState
-  shownState tags (state h s c f p) = saidState (shownHead text h) (shownSegment text s) f (map (shownTag text) (drop f tags))
+  shownState tags s = saidState (shownHead text (s .headOf)) (shownSegment text (s .segmentOf)) (s .countsOf .kept) (map (shownTag text) (drop (s .countsOf .kept) tags))
 
   -- a tag of the head changes the head, and ends no clip
   head-says : (h : Head) (t : HeadTag) (s : Making) (f : ℕ) (gs : List ShownTag)
       → (nextSaid (saidState (shownHead text h) s f gs) (headSays text t) ≡ saidState (shownHead text (headNext h t)) s f gs)
       × (clipSaid (saidState (shownHead text h) s f gs) (headSays text t) ≡ [])
-  head-says (head v d m c p e i n) (version x) s f gs = (refl, refl)
-  head-says (head v d m c p e i n) (targetDuration x) s f gs = (refl, refl)
-  head-says (head v d m c p e i n) (mediaSequence x) s f gs = (refl, refl)
-  head-says (head v d m c p e i n) (discontinuitySequence x) s f gs = (refl, refl)
-  head-says (head v d m c p e i n) (typed x) s f gs = (refl, refl)
-  head-says (head v d m c p e i n) iFramesOnly s f gs = (refl, refl)
-  head-says (head v d m c p e i n) independentSegments s f gs = (refl, refl)
-  head-says (head v d m c p e i n) endList s f gs = (refl, refl)
+  head-says hd (version x) s f gs = (refl, refl)
+  head-says hd (targetDuration x) s f gs = (refl, refl)
+  head-says hd (mediaSequence x) s f gs = (refl, refl)
+  head-says hd (discontinuitySequence x) s f gs = (refl, refl)
+  head-says hd (typed x) s f gs = (refl, refl)
+  head-says hd iFramesOnly s f gs = (refl, refl)
+  head-says hd independentSegments s f gs = (refl, refl)
+  head-says hd endList s f gs = (refl, refl)
 
   -- a tag of a clip changes the clip in the making, and ends none
   clip-says : (s : Segment) (t : ClipTag) (h : ShownHead) (f : ℕ) (gs : List ShownTag)
@@ -202,14 +203,14 @@ module _ (text : List ℕ) where
 
   next-said : (pre : List ExtTag) (s : State) (t : Tag) → length pre ≡ metTags s → shownState (pre ++ tagIn t) (next s t) ≡ nextSaid (shownState pre s) (tagSays text t)
   unfolding next
-  next-said pre (state h s c f p) (ofHead t) e = rw append-nil (sym (head-says h t _ _ _ .0))
-  next-said pre (state h s c f p) (ofClip t) e = rw append-nil (sym (clip-says s t _ _ _ .0))
-  next-said pre (state h s c f p) (unknown (ext name rest)) e =
-      let l : f ≤ length pre = omega arith in
-      rw (drop-append-le f pre (ext name rest ∷ []) l, map-append)
-  next-said pre (state h s c f p) (comment t) e = rw append-nil
-  next-said pre (state h s c f p) (uri u) e = rw (append-nil, since pre f p e, ← e, drop-length)
-  next-said pre (state h s c f p) (leftOut x) e = rw append-nil
+  next-said pre s (ofHead t) e = rw append-nil (sym (head-says (s .headOf) t _ _ _ .0))
+  next-said pre s (ofClip t) e = rw append-nil (sym (clip-says (s .segmentOf) t _ _ _ .0))
+  next-said pre s (unknown (ext name rest)) e =
+      let l : s .countsOf .kept ≤ length pre = omega arith in
+      rw (drop-append-le (s .countsOf .kept) pre (ext name rest ∷ []) l, map-append)
+  next-said pre s (comment t) e = rw append-nil
+  next-said pre s (uri u) e = rw (append-nil, since pre (s .countsOf .kept) (s .countsOf .since) e, ← e, drop-length)
+  next-said pre s (leftOut x) e = rw append-nil
 
   tags-so-far : (pre : List ExtTag) (s : State) (t : Tag) → length pre ≡ metTags s → length (pre ++ tagIn t) ≡ metTags (next s t)
   tags-so-far pre s t e = length-append pre (tagIn t) ∙ omega (arith, next-tags s t)
@@ -226,12 +227,18 @@ module _ (text : List ℕ) where
   clip-said : (pre xs : List ExtTag) (s : State) (t : Tag) (k : ℕ) → length pre ≡ metTags s → keptTags (next s t) ≤ k
       → map (shownClip text (take k (pre ++ xs))) (clipIn s t) ≡ clipSaid (shownState pre s) (tagSays text t)
   unfolding next
-  clip-said pre xs (state h s c f p) (ofHead t) k e l = sym (head-says h t (shownSegment text s) f (map (shownTag text) (drop f pre)) .1)
-  clip-said pre xs (state h s c f p) (ofClip t) k e l = sym (clip-says s t (shownHead text h) f (map (shownTag text) (drop f pre)) .1)
-  clip-said pre xs (state h s c f p) (unknown (ext name rest)) k e l = refl
-  clip-said pre xs (state h s c f p) (comment t) k e l = refl
-  clip-said pre xs (state h (segment n t r d m) c f p) (uri u) k e l = rw (run pre xs f p k e l, since pre f p e)
-  clip-said pre xs (state h s c f p) (leftOut x) k e l = refl
+  clip-said pre xs s (ofHead t) k e l = sym (head-says (s .headOf) t (shownSegment text (s .segmentOf)) (s .countsOf .kept) (map (shownTag text) (drop (s .countsOf .kept) pre)) .1)
+  clip-said pre xs s (ofClip t) k e l = sym (clip-says (s .segmentOf) t (shownHead text (s .headOf)) (s .countsOf .kept) (map (shownTag text) (drop (s .countsOf .kept) pre)) .1)
+  clip-said pre xs s (unknown (ext name rest)) k e l = refl
+  clip-said pre xs s (comment t) k e l = refl
+  clip-said pre xs s (uri u) k e l = go (s .segmentOf)
+    where
+      f : ℕ
+      f = s .countsOf .kept
+
+      go : (x : Segment) → map (shownClip text (take k (pre ++ xs))) (clip u x f (s .countsOf .since) ∷ []) ≡ clipSaid (saidState (shownHead text (s .headOf)) (shownSegment text x) f (map (shownTag text) (drop f pre))) (tagSays text (uri u))
+      go (segment n t r d m) = rw (run pre xs (s .countsOf .kept) (s .countsOf .since) k e l, since pre (s .countsOf .kept) (s .countsOf .since) e)
+  clip-said pre xs s (leftOut x) k e l = refl
 
   pub clips-said : (pre : List ExtTag) (s : State) (ts : List Taken) (k : ℕ) → length pre ≡ metTags s → keptTags (lastOf s ts) ≤ k
       → map (shownClip text (take k (pre ++ tagsOf ts))) (clipsOf s ts) ≡ clipsSaid (shownState pre s) (map (takenSays text) ts)
@@ -247,10 +254,10 @@ module _ (text : List ℕ) where
       )
 
   head-shown : (tags : List ExtTag) (s : State) → shownHead text (headOf s) ≡ headSaid (shownState tags s)
-  head-shown tags (state h s c f p) = refl
+  head-shown tags s = refl
 
   kept-shown : (tags : List ExtTag) (s : State) → keptTags s ≡ keptSaid (shownState tags s)
-  kept-shown tags (state h s c f p) = refl
+  kept-shown tags s = refl
 
 -- a reading from the start: all that is shown of it follows from what its steps say
 pub record Assembled (text : List ℕ) (ts : List Taken) : Type 0 where

@@ -8,7 +8,7 @@ use native.Mathlib.Omega.{arith}
 use lib.ListN.{length, drop, length-append}
 use borrow.Author.Tests.{lt-ltb, le-ltb, eq-eqb}
 use Rattle.text.specs.Why.{Why}
-use Rattle.text.specs.Nom.{fail, ok, span, spanOr, bytes, isNoneOf, begins}
+use Rattle.text.specs.Nom.{fail, ok, span, spanOr, bytes, isNoneOf, begins, isMultispace}
 use Rattle.text.specs.Util.{ByteRange, byteRangeVal}
 use Rattle.text.specs.BasicTags.{ExtTag, ext, extTag}
 use Rattle.text.proofs.Ahead.{Every, Stops, on, in-text, in-ahead, byte-ahead, line-ahead, ext-ahead, ext-bare-ahead, fails-ahead, shows}
@@ -16,25 +16,25 @@ use Rattle.lengths.specs.Duration.{ns, extinf}
 use Rattle.lengths.proofs.Ahead.{duration-title-ahead}
 use Rattle.digits.specs.Digits.{lengthText}
 use Rattle.tables.specs.Layout.{lengthLimit}
-use Rattle.tags.specs.Tags.{timed, ranged, ofClip, unknown, uri, playlistTag, segmentTag, otherTag, mediaSegmentTag, mediaPlaylistTag, took}
+use Rattle.tags.specs.Tags.{timed, ranged, ofClip, unknown, uri, playlistTag, segmentTag, otherTag, mediaSegmentTag, mediaPlaylistTag, took, literal, byteRangeRow, extinfRow}
 use Rattle.tags.proofs.Local.{mvTag, playlist-tag-local, segment-tag-local}
 use Rattle.tags.proofs.Begins.{not-hash}
-use Rattle.records.specs.Same.{shownPart}
+use Rattle.text.specs.Spans.{shownPart}
 use Rattle.playlist.specs.Lines.{byteRangeLine, unknownLine, extinfLine, uriLine, rangeBytes, lineBytes}
 use Rattle.roundtrip.proofs.Said.{saysLength, saysUnknown, saysUri, titleSays, Some, NumbersFit, RestFits}
-use Rattle.roundtrip.proofs.Steps.{TakesLine, isBlank, step-takes, part-leaves, at-length, at-range}
+use Rattle.roundtrip.proofs.Steps.{TakesLine, step-takes, part-leaves, at-length, at-range}
 use Rattle.roundtrip.proofs.Numbers.{no-digit-lf, no-digit-comma, range-back, length-back}
 
 -- ---- a range
-module _ (text : List ℕ) (at : ℕ) (xs : List ℕ) (s : Stops isBlank xs) where
+module _ (text : List ℕ) (at : ℕ) (xs : List ℕ) (s : Stops isMultispace xs) where
   pub takes-range : (r : ByteRange) → NumbersFit r → drop at text ≡ lineBytes (byteRangeLine r) ++ xs → TakesLine text at (byteRangeLine r)
   unfolding begins
   takes-range r h d =
-      let f = bytes "#EXT-X-BYTERANGE:" in
+      let f = literal byteRangeRow in
       (took at (ofClip (ranged r)), part-leaves text at f (rangeBytes r) xs byteRangeVal r _ s (at-range text at _ r) d (range-back text (at + length f) r h _ no-digit-lf refl), refl)
 
 -- ---- a URI: a line that no `#` begins
-module _ (text : List ℕ) (at : ℕ) (xs : List ℕ) (s : Stops isBlank xs) where
+module _ (text : List ℕ) (at : ℕ) (xs : List ℕ) (s : Stops isMultispace xs) where
   no-hash : (x : ℕ) (b : List ℕ) → begins (bytes "#") (x ∷ b) ≡ false → x ≡ 35 → ⊥
   unfolding begins
   no-hash x b q e = false≢true (sym q ∙ rw (eq-eqb x 35 e))
@@ -53,12 +53,12 @@ part-shows text at [] xs d = rw (le-ltb at (at + 0) (omega arith))
 part-shows text at (x ∷ b) xs d = rw (lt-ltb at (at + length (x ∷ b)) (omega arith)) (ap some (shows text at (x ∷ b) xs d))
 
 -- ---- a length and a title
-module _ (text : List ℕ) (at : ℕ) (xs : List ℕ) (s : Stops isBlank xs) where
+module _ (text : List ℕ) (at : ℕ) (xs : List ℕ) (s : Stops isMultispace xs) where
   pub takes-length : (l : ℕ) (t : List ℕ) → l < lengthLimit → Every (isNoneOf (bytes "\r\n,")) t → begins (bytes ",") xs ≡ false → drop at text ≡ lineBytes (extinfLine l t) ++ xs
       → TakesLine text at (extinfLine l t)
   unfolding begins
   takes-length l t h e q d =
-      let f = bytes "#EXTINF:" in
+      let f = literal extinfRow in
       let a = at + length f in
       let m = a + length (lengthText l) in
       let c = m + 1 + length t in
@@ -85,7 +85,7 @@ module _ (text : List ℕ) (at : ℕ) where
       let c = fails-ahead mvTag segmentTag segment-tag-local text at (35 ∷ b) (omega arith) d (k .1 .0) (k .1 .1) in
       rw (in-ahead text at 35 b d, f, c, g)
 
-module _ (text : List ℕ) (at : ℕ) (xs : List ℕ) (s : Stops isBlank xs) where
+module _ (text : List ℕ) (at : ℕ) (xs : List ℕ) (s : Stops isMultispace xs) where
   pub takes-unknown : (name : List ℕ) (rest : Option (List ℕ)) → Some name → Every (isNoneOf (bytes "\r\n:")) name → RestFits rest
       → NoneTakes (lineBytes (unknownLine name rest) ++ xs) → drop at text ≡ lineBytes (unknownLine name rest) ++ xs → TakesLine text at (unknownLine name rest)
   takes-unknown (x ∷ name) none h en er k d =

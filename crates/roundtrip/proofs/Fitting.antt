@@ -5,22 +5,22 @@ use mathlib.Core.Bool.{Bool, true, false}
 use mathlib.Core.List.{List, [], _∷_, _++_, map as mapList, append-assoc}
 use mathlib.Core.Option.{Option, none, some}
 use lib.ListN.{length, take, drop}
-use Rattle.text.specs.Nom.{Span, bytes, begins}
+use Rattle.text.specs.Nom.{Span, bytes, begins, isMultispace}
 use Rattle.text.specs.Util.{ByteRange}
 use Rattle.text.specs.BasicTags.{ExtTag, ext, PlaylistType, event, vod, other}
 use Rattle.text.specs.Lines.{unlines, AllFit}
 use Rattle.text.proofs.Ahead.{Stops}
 use Rattle.attributes.specs.ExtMap.{Map, extMap}
-use Rattle.media.specs.Assembly.{Head, head, segment, Clip, clip}
+use Rattle.assembly.specs.Assembly.{Head, segment, Clip, clip}
 use Rattle.media.specs.Calls.{stepsOf, stopOf}
-use Rattle.records.specs.Same.{shown}
+use Rattle.text.specs.Spans.{shown}
 use Rattle.playlist.specs.Lines.{Line, headerLine, independentSegmentsLine, iFramesOnlyLine, discontinuityLine, endListLine, versionLine, targetDurationLine, mediaSequenceLine, discontinuitySequenceLine, playlistTypeLine, byteRangeLine, extinfLine, uriLine, lineBytes, lineIf, lineWhere, lineUnlessZero, typeText, headLines, mapLineOf, tagLineOf, titleText, clipLines, clipsLines, endLines, playlistText}
 use Rattle.records.proofs.Back.{All}
 use Rattle.roundtrip.specs.Premises.{all}
 use Rattle.roundtrip.proofs.Said.{takenSays, lineSays, NumbersFit, Clean, Behind, Fits}
 use Rattle.roundtrip.proofs.Told.{bodyLines, header-first}
 use Rattle.roundtrip.proofs.Gives.{If}
-use Rattle.roundtrip.proofs.Steps.{isBlank, every-all}
+use Rattle.roundtrip.proofs.Steps.{every-all}
 use Rattle.roundtrip.proofs.Written.{none-blank, steps-say, stops-at-end}
 
 -- ---- what lines ask, but for blanks: those follow
@@ -30,7 +30,7 @@ Asks l xs = Clean l × Behind l xs
 abbrev AllAsk : List Line → List ℕ → Type 0
 AllAsk ls xs = AllFit lineBytes Asks ls xs
 
-asks-fit : (ls : List Line) (xs : List ℕ) → Stops isBlank xs → AllAsk ls xs → AllFit lineBytes Fits ls xs
+asks-fit : (ls : List Line) (xs : List ℕ) → Stops isMultispace xs → AllAsk ls xs → AllFit lineBytes Fits ls xs
 unfolding AllFit
 asks-fit [] xs s h = tt
 asks-fit (l ∷ ls) xs s h = ((h .0 .0, (none-blank Asks (λ l xs a. a .0) ls xs s (h .1), h .0 .1)), asks-fit ls xs s (h .1))
@@ -94,18 +94,18 @@ pub record CleanParts (text : List ℕ) (v : Option ℕ) (d m c : ℕ) (p : Opti
   pub type : If (CleanType text) p
 
 abbrev pub CleanHead : List ℕ → Head → Type 0
-CleanHead text (head v d m c p e i n) = CleanParts text v d m c p
+CleanHead text hd = CleanParts text (hd .version) (hd .target) (hd .sequence) (hd .discontinuities) (hd .type)
 
 asks-head : (text : List ℕ) (h : Head) → CleanHead text h → (xs : List ℕ) → AllAsk (drop 1 (headLines text h)) xs
 unfolding headLines
-asks-head text (head v d m c p e i n) k xs =
-    asks-append (lineIf versionLine v) _ xs (asks-if _ versionLine (λ _ _. tt) v (k .version))
-    (asks-append (lineWhere independentSegmentsLine n) _ xs (asks-where _ independentSegmentsLine (λ _. tt) tt n)
-    (asks-append (targetDurationLine d ∷ []) _ xs (asks-one _ (targetDurationLine d) (λ _. tt) (k .target))
-    (asks-append (lineUnlessZero mediaSequenceLine m) _ xs (asks-unless-zero _ mediaSequenceLine (λ _ _. tt) m (k .sequence))
-    (asks-append (lineUnlessZero discontinuitySequenceLine c) _ xs (asks-unless-zero _ discontinuitySequenceLine (λ _ _. tt) c (k .discontinuities))
-    (asks-append (lineIf (λ t. playlistTypeLine (typeText text t)) p) _ xs (asks-if _ (λ t. playlistTypeLine (typeText text t)) (λ _ _. tt) p (if-too _ _ (type-clean text) p (k .type)))
-    (asks-where xs iFramesOnlyLine (λ _. tt) tt i))))))
+asks-head text hd k xs =
+    asks-append (lineIf versionLine (hd .version)) _ xs (asks-if _ versionLine (λ _ _. tt) (hd .version) (k .version))
+    (asks-append (lineWhere independentSegmentsLine (hd .independent)) _ xs (asks-where _ independentSegmentsLine (λ _. tt) tt (hd .independent))
+    (asks-append (targetDurationLine (hd .target) ∷ []) _ xs (asks-one _ (targetDurationLine (hd .target)) (λ _. tt) (k .target))
+    (asks-append (lineUnlessZero mediaSequenceLine (hd .sequence)) _ xs (asks-unless-zero _ mediaSequenceLine (λ _ _. tt) (hd .sequence) (k .sequence))
+    (asks-append (lineUnlessZero discontinuitySequenceLine (hd .discontinuities)) _ xs (asks-unless-zero _ discontinuitySequenceLine (λ _ _. tt) (hd .discontinuities) (k .discontinuities))
+    (asks-append (lineIf (λ t. playlistTypeLine (typeText text t)) (hd .type)) _ xs (asks-if _ (λ t. playlistTypeLine (typeText text t)) (λ _ _. tt) (hd .type) (if-too _ _ (type-clean text) (hd .type) (k .type)))
+    (asks-where xs iFramesOnlyLine (λ _. tt) tt (hd .iFrames)))))))
 
 -- ---- a clip: its parts, with its unknown tags
 pub record CleanSegment (text : List ℕ) (ts : List ExtTag) (u : Span) (l : ℕ) (t : Option Span) (r : Option ByteRange) (m : Option Map) : Type 0 where
@@ -152,7 +152,7 @@ module _ (text : List ℕ) where
 
 -- ---- a list
 asks-end : (h : Head) (xs : List ℕ) → AllAsk (endLines h) xs
-asks-end (head v d m c p e i n) xs = asks-where xs endListLine (λ _. tt) tt e
+asks-end hd xs = asks-where xs endListLine (λ _. tt) tt (hd .ended)
 
 -- its text is the header and its lines behind that
 pub playlist-text : (text : List ℕ) (h : Head) (cs : List Clip) (tags : List ExtTag) → playlistText text h cs tags ≡ lineBytes headerLine ++ unlines lineBytes (bodyLines text h cs tags)

@@ -4,7 +4,7 @@ use mathlib.Core.List.{List, [], _∷_}
 use mathlib.Core.Option.{Option}
 use native.Mathlib.Omega.{arith}
 use lib.ListN.{take}
-use Rattle.text.specs.Nom.{Span, bytes, isOneOf, isNoneOf}
+use Rattle.text.specs.Nom.{Span, bytes, isNoneOf, isMultispace}
 use Rattle.text.specs.Util.{ByteRange}
 use Rattle.text.specs.BasicTags.{ExtTag, PlaylistType}
 use Rattle.text.proofs.Ahead.{Stops}
@@ -12,9 +12,9 @@ use Rattle.attributes.specs.ExtMap.{Map}
 use Rattle.lengths.specs.Duration.{ns, tooManyDigits, extinf}
 use Rattle.tables.specs.Layout.{lengthLimit}
 use Rattle.tags.specs.Tags.{HeadTag, version, targetDuration, mediaSequence, discontinuitySequence, typed, iFramesOnly, independentSegments, endList, ClipTag, timed, ranged, discontinuity, mapped, Tag, ofHead, ofClip, unknown, comment, uri, leftOut, Taken, took}
-use Rattle.media.specs.Assembly.{Head, head, headNext, Segment, segment, segmentNext, State, state, begin, next, Clip, clip, clipIn, tagIn, lastOf, clipsOf, tagsOf, headOf, keptTags}
+use Rattle.assembly.specs.Assembly.{Head, headNext, Segment, segment, segmentNext, State, begin, next, Clip, clip, clipIn, tagIn, lastOf, clipsOf, tagsOf, headOf, keptTags}
 use Rattle.media.specs.Calls.{stepsOf, clipsRead, tagsRead}
-use Rattle.records.specs.Same.{shown}
+use Rattle.text.specs.Spans.{shown}
 use Rattle.records.proofs.Back.{All, all-append}
 use Rattle.roundtrip.proofs.Said.{NumbersFit}
 use Rattle.roundtrip.proofs.Gives.{If, Shows, Small}
@@ -39,7 +39,7 @@ module _ (text : List ℕ) where
     pub type : If (SoundType text) p
 
   abbrev pub SoundHeadOf : Head → Type 0
-  SoundHeadOf (head v d m c p e i n) = SoundParts v d m c p
+  SoundHeadOf hd = SoundParts (hd .version) (hd .target) (hd .sequence) (hd .discontinuities) (hd .type)
 
   -- ---- the clip in the making, and one that a URI has ended
   pub record SoundMaking (l : ℕ) (t : Option Span) (r : Option ByteRange) (m : Option Map) : Type 0 where
@@ -52,7 +52,7 @@ module _ (text : List ℕ) where
   SoundSegment (segment l t r d m) = SoundMaking l t r m
 
   abbrev pub SoundUri : Span → Type 0
-  SoundUri u = Shows (isNoneOf (bytes "\r\n")) text u × Stops (isOneOf (bytes " \t\r\n")) (shown text u)
+  SoundUri u = Shows (isNoneOf (bytes "\r\n")) text u × Stops isMultispace (shown text u)
 
   abbrev pub SoundClipOf : Clip → Type 0
   SoundClipOf (clip u s f n) = SoundUri u × SoundSegment s
@@ -62,7 +62,7 @@ module _ (text : List ℕ) where
   SoundTagOf x = SoundExt text x × ((at : ℕ) × Unread text at x)
 
   abbrev SoundState : State → Type 0
-  SoundState (state h s c f p) = SoundHeadOf h × SoundSegment s
+  SoundState s = SoundHeadOf (s .headOf) × SoundSegment (s .segmentOf)
 
   begins-sound : SoundState begin
   begins-sound = (
@@ -72,14 +72,14 @@ module _ (text : List ℕ) where
 
   -- ---- one step
   head-next : (h : Head) (t : HeadTag) → SoundHeadOf h → SoundHead text t → SoundHeadOf (headNext h t)
-  head-next (head v d m c p e i n) (version x) h k = record { version = k; target = h .target; sequence = h .sequence; discontinuities = h .discontinuities; type = h .type }
-  head-next (head v d m c p e i n) (targetDuration x) h k = record { version = h .version; target = k; sequence = h .sequence; discontinuities = h .discontinuities; type = h .type }
-  head-next (head v d m c p e i n) (mediaSequence x) h k = record { version = h .version; target = h .target; sequence = k; discontinuities = h .discontinuities; type = h .type }
-  head-next (head v d m c p e i n) (discontinuitySequence x) h k = record { version = h .version; target = h .target; sequence = h .sequence; discontinuities = k; type = h .type }
-  head-next (head v d m c p e i n) (typed x) h k = record { version = h .version; target = h .target; sequence = h .sequence; discontinuities = h .discontinuities; type = k }
-  head-next (head v d m c p e i n) iFramesOnly h k = h
-  head-next (head v d m c p e i n) independentSegments h k = h
-  head-next (head v d m c p e i n) endList h k = h
+  head-next hd (version x) h k = record { version = k; target = h .target; sequence = h .sequence; discontinuities = h .discontinuities; type = h .type }
+  head-next hd (targetDuration x) h k = record { version = h .version; target = k; sequence = h .sequence; discontinuities = h .discontinuities; type = h .type }
+  head-next hd (mediaSequence x) h k = record { version = h .version; target = h .target; sequence = k; discontinuities = h .discontinuities; type = h .type }
+  head-next hd (discontinuitySequence x) h k = record { version = h .version; target = h .target; sequence = h .sequence; discontinuities = k; type = h .type }
+  head-next hd (typed x) h k = record { version = h .version; target = h .target; sequence = h .sequence; discontinuities = h .discontinuities; type = k }
+  head-next hd iFramesOnly h k = h
+  head-next hd independentSegments h k = h
+  head-next hd endList h k = h
 
   segment-next : (s : Segment) (t : ClipTag) → SoundSegment s → SoundClip text t → SoundSegment (segmentNext s t)
   segment-next (segment l t r d m) (timed (extinf (ns x) y)) h k = record { length = k .0; title = k .1; range = h .range; map = h .map }
@@ -90,21 +90,21 @@ module _ (text : List ℕ) where
 
   state-next : (s : State) (at : ℕ) (t : Tag) → SoundState s → Sound text at t → SoundState (next s t)
   unfolding next
-  state-next (state h s c f p) at (ofHead t) k q = (head-next h t (k .0) q, k .1)
-  state-next (state h s c f p) at (ofClip t) k q = (k .0, segment-next s t (k .1) q)
-  state-next (state h s c f p) at (unknown t) k q = k
-  state-next (state h s c f p) at (comment t) k q = k
-  state-next (state h s c f p) at (uri u) k q = (k .0, begins-sound .1)
-  state-next (state h s c f p) at (leftOut x) k q = k
+  state-next s at (ofHead t) k q = (head-next (s .headOf) t (k .0) q, k .1)
+  state-next s at (ofClip t) k q = (k .0, segment-next (s .segmentOf) t (k .1) q)
+  state-next s at (unknown t) k q = k
+  state-next s at (comment t) k q = k
+  state-next s at (uri u) k q = (k .0, begins-sound .1)
+  state-next s at (leftOut x) k q = k
 
   clip-in : (s : State) (at : ℕ) (t : Tag) → SoundState s → Sound text at t → All SoundClipOf (clipIn s t)
   unfolding All
-  clip-in (state h s c f p) at (ofHead t) k q = tt
-  clip-in (state h s c f p) at (ofClip t) k q = tt
-  clip-in (state h s c f p) at (unknown t) k q = tt
-  clip-in (state h s c f p) at (comment t) k q = tt
-  clip-in (state h s c f p) at (uri u) k q = ((q, k .1), tt)
-  clip-in (state h s c f p) at (leftOut x) k q = tt
+  clip-in s at (ofHead t) k q = tt
+  clip-in s at (ofClip t) k q = tt
+  clip-in s at (unknown t) k q = tt
+  clip-in s at (comment t) k q = tt
+  clip-in s at (uri u) k q = ((q, k .1), tt)
+  clip-in s at (leftOut x) k q = tt
 
   tag-in : (at : ℕ) (t : Tag) → Sound text at t → All SoundTagOf (tagIn t)
   unfolding All
@@ -133,7 +133,7 @@ module _ (text : List ℕ) where
   tags-sound (took at t ∷ ts) h = all-append SoundTagOf (tagIn t) (tagsOf ts) (tag-in at t (h .0 .0)) (tags-sound ts (h .1))
 
   head-of : (s : State) → SoundState s → SoundHeadOf (headOf s)
-  head-of (state h s c f p) k = k .0
+  head-of s k = k .0
 
   -- ---- the list
   pub record SoundList : Type 0 where

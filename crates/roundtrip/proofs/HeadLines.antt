@@ -5,34 +5,35 @@ use mathlib.Core.Bool.{Bool, true, false, cond}
 use mathlib.Core.List.{List, _∷_, _++_, append-assoc}
 use native.Mathlib.Omega.{arith}
 use lib.ListN.{length, drop}
-use Rattle.text.specs.Nom.{ok, span, spanOr, bytes, isNoneOf, tagged, begins}
+use Rattle.text.specs.Nom.{ok, span, spanOr, bytes, isNoneOf, tagged, begins, isMultispace}
 use Rattle.text.specs.Util.{number, numberOrZero}
 use Rattle.text.specs.BasicTags.{extTag, event, vod, other, playlistType}
 use Rattle.text.proofs.Ahead.{Every, Stops, typed, on, in-ahead, comment-ahead, type-ahead, shows}
 use Rattle.digits.specs.Digits.{numberText}
-use Rattle.tags.specs.Tags.{version, targetDuration, mediaSequence, discontinuitySequence, iFramesOnly, independentSegments, endList, discontinuity, HeadTag, ofHead, ofClip, comment, playlistTag, segmentTag, otherTag, mediaSegmentTag, mediaPlaylistTag, took, step}
+use Rattle.tags.specs.Tags.{version, targetDuration, mediaSequence, discontinuitySequence, iFramesOnly, independentSegments, endList, discontinuity, HeadTag, ofHead, ofClip, comment, playlistTag, segmentTag, otherTag, mediaSegmentTag, mediaPlaylistTag, took, step, literal, discontinuityRow, discontinuitySequenceRow, endListRow, iFramesOnlyRow, independentSegmentsRow, mediaSequenceRow, playlistTypeRow, targetDurationRow, versionRow}
 use Rattle.tags.specs.Tags as tags
-use Rattle.records.specs.Same.{eventShown, vodShown, otherShown, shownType, sameBytes}
+use Rattle.text.specs.Spans.{sameBytes}
+use Rattle.records.specs.Same.{eventShown, vodShown, otherShown, shownType}
 use Rattle.playlist.specs.Lines.{headerLine, independentSegmentsLine, iFramesOnlyLine, discontinuityLine, endListLine, versionLine, targetDurationLine, mediaSequenceLine, discontinuitySequenceLine, playlistTypeLine, lineBytes}
 use Rattle.roundtrip.specs.Premises.{all}
 use Rattle.roundtrip.proofs.Said.{saysType, typeSays, Some}
 use Rattle.roundtrip.proofs.Words.{spells-own}
-use Rattle.roundtrip.proofs.Steps.{TakesLine, isBlank, every-all, step-leaves, step-takes, part-leaves, part-takes, at-version, at-target, at-sequence, at-discontinuity-sequence, at-type, at-i-frames, at-independent, at-end, at-discontinuity}
+use Rattle.roundtrip.proofs.Steps.{TakesLine, every-all, step-leaves, step-takes, part-leaves, part-takes, at-version, at-target, at-sequence, at-discontinuity-sequence, at-type, at-i-frames, at-independent, at-end, at-discontinuity}
 use Rattle.roundtrip.proofs.Numbers.{no-digit-lf, number-back, number-or-zero-back}
 
-module _ (text : List ℕ) (at : ℕ) (xs : List ℕ) (s : Stops isBlank xs) where
+module _ (text : List ℕ) (at : ℕ) (xs : List ℕ) (s : Stops isMultispace xs) where
   -- ---- marks
   pub takes-independent : drop at text ≡ lineBytes independentSegmentsLine ++ xs → TakesLine text at independentSegmentsLine
-  takes-independent d = (took at (ofHead independentSegments), step-leaves text at _ (bytes "#EXT-X-INDEPENDENT-SEGMENTS") xs (at-independent text at _ d) s d, refl)
+  takes-independent d = (took at (ofHead independentSegments), step-leaves text at _ (literal independentSegmentsRow) xs (at-independent text at _ d) s d, refl)
 
   pub takes-i-frames : drop at text ≡ lineBytes iFramesOnlyLine ++ xs → TakesLine text at iFramesOnlyLine
-  takes-i-frames d = (took at (ofHead iFramesOnly), step-leaves text at _ (bytes "#EXT-X-I-FRAMES-ONLY") xs (at-i-frames text at _ d) s d, refl)
+  takes-i-frames d = (took at (ofHead iFramesOnly), step-leaves text at _ (literal iFramesOnlyRow) xs (at-i-frames text at _ d) s d, refl)
 
   pub takes-discontinuity : drop at text ≡ lineBytes discontinuityLine ++ xs → TakesLine text at discontinuityLine
-  takes-discontinuity d = (took at (ofClip discontinuity), step-leaves text at _ (bytes "#EXT-X-DISCONTINUITY") xs (at-discontinuity text at _ d) s d, refl)
+  takes-discontinuity d = (took at (ofClip discontinuity), step-leaves text at _ (literal discontinuityRow) xs (at-discontinuity text at _ d) s d, refl)
 
   pub takes-end : drop at text ≡ lineBytes endListLine ++ xs → TakesLine text at endListLine
-  takes-end d = (took at (ofHead endList), step-leaves text at _ (bytes "#EXT-X-ENDLIST") xs (at-end text at _ d) s d, refl)
+  takes-end d = (took at (ofHead endList), step-leaves text at _ (literal endListRow) xs (at-end text at _ d) s d, refl)
 
   -- the header reads as a comment
   pub takes-header : drop at text ≡ lineBytes headerLine ++ xs → TakesLine text at headerLine
@@ -46,7 +47,7 @@ module _ (text : List ℕ) (at : ℕ) (xs : List ℕ) (s : Stops isBlank xs) whe
   module _ (n : ℕ) (h : n < 2 ^ 64) where
     pub takes-version : drop at text ≡ lineBytes (versionLine n) ++ xs → TakesLine text at (versionLine n)
     takes-version d =
-        let f = bytes "#EXT-X-VERSION:" in
+        let f = literal versionRow in
         (took at (ofHead (version n)), part-leaves text at f (numberText n) xs numberOrZero n _ s (at-version text at _ n) d (number-or-zero-back text (at + length f) n h _ no-digit-lf), refl)
 
     -- the other three
@@ -55,13 +56,13 @@ module _ (text : List ℕ) (at : ℕ) (xs : List ℕ) (s : Stops isBlank xs) whe
     number-line fixed t known d = part-leaves text at fixed (numberText n) xs number n (ofHead t) s known d (number-back text (at + length fixed) n h _ no-digit-lf)
 
     pub takes-target : drop at text ≡ lineBytes (targetDurationLine n) ++ xs → TakesLine text at (targetDurationLine n)
-    takes-target d = (took at (ofHead (targetDuration n)), number-line (bytes "#EXT-X-TARGETDURATION:") _ (at-target text at _ n) d, refl)
+    takes-target d = (took at (ofHead (targetDuration n)), number-line (literal targetDurationRow) _ (at-target text at _ n) d, refl)
 
     pub takes-sequence : drop at text ≡ lineBytes (mediaSequenceLine n) ++ xs → TakesLine text at (mediaSequenceLine n)
-    takes-sequence d = (took at (ofHead (mediaSequence n)), number-line (bytes "#EXT-X-MEDIA-SEQUENCE:") _ (at-sequence text at _ n) d, refl)
+    takes-sequence d = (took at (ofHead (mediaSequence n)), number-line (literal mediaSequenceRow) _ (at-sequence text at _ n) d, refl)
 
     pub takes-discontinuity-sequence : drop at text ≡ lineBytes (discontinuitySequenceLine n) ++ xs → TakesLine text at (discontinuitySequenceLine n)
-    takes-discontinuity-sequence d = (took at (ofHead (discontinuitySequence n)), number-line (bytes "#EXT-X-DISCONTINUITY-SEQUENCE:") _ (at-discontinuity-sequence text at _ n) d, refl)
+    takes-discontinuity-sequence d = (took at (ofHead (discontinuitySequence n)), number-line (literal discontinuitySequenceRow) _ (at-discontinuity-sequence text at _ n) d, refl)
 
 -- ---- a type
 module _ (text : List ℕ) (at : ℕ) (xs : List ℕ) where
@@ -74,10 +75,10 @@ module _ (text : List ℕ) (at : ℕ) (xs : List ℕ) where
       go false true = refl
       go false false = ap otherShown (shows text at b xs d)
 
-module _ (text : List ℕ) (at : ℕ) (xs : List ℕ) (s : Stops isBlank xs) where
+module _ (text : List ℕ) (at : ℕ) (xs : List ℕ) (s : Stops isMultispace xs) where
   pub takes-type : (t : List ℕ) → Some t → Every (isNoneOf (bytes "\r\n")) t → drop at text ≡ lineBytes (playlistTypeLine t) ++ xs → TakesLine text at (playlistTypeLine t)
   takes-type (x ∷ b) h e d =
-      let f = bytes "#EXT-X-PLAYLIST-TYPE:" in
+      let f = literal playlistTypeRow in
       let v = typed (x ∷ b) (span (at + 21) (at + 21 + length (x ∷ b))) in
       let w = part-takes text at f (x ∷ b) xs playlistType v _ s (at-type text at _ v) d (type-ahead text (at + 21) x b xs e) in
       let h1 : drop (at + 21) text ≡ (x ∷ b) ++ (bytes "\n" ++ xs) = on text at f _ (d ∙ simp append-assoc) in

@@ -10,23 +10,24 @@ use lib.ListN.{length, getD, length-append}
 use borrow.Author.Tests.{le-leb, lt-ltb, eq-eqb}
 use Rattle.text.specs.Nom.{Span, span, bytes, isNoneOf}
 use Rattle.text.specs.Util.{ByteRange, range}
-use Rattle.text.specs.BasicTags.{ExtTag, ext, event, vod, other}
+use Rattle.text.specs.BasicTags.{ExtTag, ext, PlaylistType, event, vod, other}
 use Rattle.attributes.specs.ExtMap.{Map, extMap}
 use Rattle.lengths.specs.Binary32.{secondsBits}
 use Rattle.tables.specs.Layout as layout
 use Rattle.tables.specs.Table.{clipsFit, tagsFit, clipWord, tagWord, hasFlag}
 use Rattle.tables.proofs.Every.{every-of}
 use Rattle.tables.proofs.Records.{words-fit}
-use Rattle.media.specs.Assembly.{Head, head, segment, Clip, clip}
+use Rattle.assembly.specs.Assembly.{Head, segment, Clip, clip}
 use Rattle.media.specs.Calls.{clipsRead, tagsRead}
-use Rattle.media.specs.Words.{partWords, rangeWords, mapWords, flagsOf, clipWordsOf, tagWordsOf, clipsWords, tagsWords}
-use Rattle.media.proofs.Records.{clips-words-length, tags-words-length}
-use Rattle.media.proofs.ReadBack.{clip-back, tag-back}
-use Rattle.records.specs.Rule9.{spanFits, headFits, flagsKeep, zeroWithout, plainKeep, rangeKeeps, mapKeeps, clipKeeps, tagKeeps, tagsUpTo, runsAdjoin, keepsRule}
+use Rattle.assembly.specs.Words.{partWords, rangeWords, mapWords, flagsOf, clipWordsOf, tagWordsOf, clipsWords, tagsWords}
+use Rattle.assembly.proofs.Records.{clips-words-length, tags-words-length}
+use Rattle.assembly.proofs.ReadBack.{clip-back, tag-back}
+use Rattle.text.specs.Spans.{spanFits}
+use Rattle.rule9.specs.Rule9.{typeFits, headFits, flagsKeep, zeroWithout, plainKeep, rangeKeeps, mapKeeps, clipKeeps, tagKeeps, tagsUpTo, runsAdjoin, keepsRule}
 use Rattle.records.proofs.Back.{All, map-six, part-two, range-two}
-use Rattle.records.proofs.Kept.{left-holds, right-holds}
+use Rattle.text.proofs.Laws.{and-left, and-right}
 use Rattle.roundtrip.proofs.Gives.{If, Shows}
-use Rattle.roundtrip.proofs.Values.{SoundMap}
+use Rattle.roundtrip.proofs.Values.{SoundType, SoundMap}
 use Rattle.roundtrip.proofs.Told.{Adjoin}
 use Rattle.roundtrip.proofs.Again.{headRead}
 use Rattle.roundtrip.proofs.Guaranteed.{SoundHeadOf, SoundClipOf, SoundTagOf, SoundList}
@@ -69,10 +70,13 @@ module _ (text : List ℕ) where
 
   -- ---- the head
   head-fits : (h : Head) → SoundHeadOf text h → headFits text h ≡ true
-  head-fits (head v d m c none e i n) k = refl
-  head-fits (head v d m c (some event) e i n) k = refl
-  head-fits (head v d m c (some vod) e i n) k = refl
-  head-fits (head v d m c (some (other (span a b))) e i n) k = shows-fits (isNoneOf (bytes "\r\n")) a b (k .type .0)
+  head-fits h k = go (h .type) (k .type)
+    where
+      go : (p : Option PlaylistType) → If (SoundType text) p → typeFits text p ≡ true
+      go none k = refl
+      go (some event) k = refl
+      go (some vod) k = refl
+      go (some (other (span a b))) k = shows-fits (isNoneOf (bytes "\r\n")) a b (k .0)
 
 -- ---- flags, and zeros where they are not there: in each of the 3 x 2 x 4 shapes, by computation
 abbrev shapeKeeps : ℕ → List ℕ → List ℕ → Bool
@@ -155,12 +159,12 @@ module _ (text : List ℕ) where
       && (zeroWithout f layout.hasMapRange m2
       && zeroWithout f layout.hasMapOffset m3))))))))) ≡ true
   joined f r0 r1 m0 m1 m2 m3 m4 m5 e u l =
-      let e1 = right-holds (flagsKeep f) _ e in
-      let e2 = right-holds (zeroWithout f layout.hasRange r0) _ e1 in
-      let e3 = right-holds (zeroWithout f layout.hasRangeOffset r1) _ e2 in
-      let z : flagsKeep f ≡ true = left-holds _ _ e in
-      let z1 : zeroWithout f layout.hasRange r0 ≡ true = left-holds _ _ e1 in
-      let z2 : zeroWithout f layout.hasRangeOffset r1 ≡ true = left-holds _ _ e2 in
+      let e1 = and-right (flagsKeep f) _ e in
+      let e2 = and-right (zeroWithout f layout.hasRange r0) _ e1 in
+      let e3 = and-right (zeroWithout f layout.hasRangeOffset r1) _ e2 in
+      let z : flagsKeep f ≡ true = and-left _ _ e in
+      let z1 : zeroWithout f layout.hasRange r0 ≡ true = and-left _ _ e1 in
+      let z2 : zeroWithout f layout.hasRangeOffset r1 ≡ true = and-left _ _ e2 in
       rw (z, z1, z2, u, l) e3
 
   words-keep : (c : Clip) → SoundClipOf text c → keepsFrom (λ i. getD (clipWordsOf c) i 0) ≡ true

@@ -23,6 +23,14 @@ pub mod Written
 pub mod Fitting
 -- what the rules behind a tag give
 pub mod Values
+-- rules whose failing depends on the line alone
+pub mod Alike
+-- a name and the byte behind it
+pub mod Named
+-- what is sound of a tag
+pub mod Sounds
+-- what each known tag brings to the round trip
+pub mod Rows
 -- what the reader guarantees of the tag that a step takes
 pub mod Sound
 -- and for the whole reading
@@ -45,8 +53,6 @@ pub mod Words
 pub mod Media
 -- these laws at work
 pub mod ListExample
--- rules whose failing depends on the line alone
-pub mod Alike
 -- an unknown tag is unknown again when it is written
 pub mod Unknown
 -- UTF-8 of parts

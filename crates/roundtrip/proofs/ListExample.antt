@@ -11,7 +11,7 @@ use Rattle.text.specs.Util.{parsed, number, range}
 use Rattle.text.specs.BasicTags.{ExtTag, ext, other}
 use Rattle.attributes.specs.ExtMap.{extMap}
 use Rattle.tags.specs.Tags.{playlistTag, segmentTag}
-use Rattle.media.specs.Assembly.{Head, head, segment, Clip, clip}
+use Rattle.assembly.specs.Assembly.{Head, head, segment, Clip, clip}
 use Rattle.media.specs.Calls.{stepsOf}
 use Rattle.playlist.specs.Lines.{Line, independentSegmentsLine, iFramesOnlyLine, discontinuityLine, endListLine, versionLine, targetDurationLine, mediaSequenceLine, discontinuitySequenceLine, playlistTypeLine, mapLine, byteRangeLine, unknownLine, extinfLine, uriLine, headLines, clipLines, clipsLines, playlistText}
 use Rattle.records.proofs.Back.{All}

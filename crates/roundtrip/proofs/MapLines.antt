@@ -6,17 +6,17 @@ use mathlib.Core.Option.{Option, none, some}
 use native.Mathlib.Omega.{arith}
 use lib.ListN.{length, drop, length-append}
 use borrow.Author.Tests.{ne-eqb}
-use Rattle.text.specs.Nom.{ok, Span, span, bytes, isNoneOf, begins}
+use Rattle.text.specs.Nom.{ok, Span, span, bytes, isNoneOf, begins, isMultispace}
 use Rattle.text.specs.Util.{ByteRange, range, byteRangeVal}
 use Rattle.text.proofs.Ahead.{Every, Stops, every-append, on, shows}
 use Rattle.attributes.specs.ExtMap.{extMap, extmap}
 use Rattle.attributes.proofs.Ahead.{pairBytes, uriFrom, uriTo, rangeTo, map-uri-ahead, map-range-ahead}
 use Rattle.digits.specs.Digits.{numberText}
 use Rattle.digits.proofs.Number.{number-first}
-use Rattle.tags.specs.Tags.{mapped, ofClip, took}
+use Rattle.tags.specs.Tags.{mapped, ofClip, took, literal, mapRow}
 use Rattle.playlist.specs.Lines.{mapLine, rangeBytes, mapRangeBytes, lineBytes}
 use Rattle.roundtrip.proofs.Said.{saysMap, Some, NumbersFit, RangeFits}
-use Rattle.roundtrip.proofs.Steps.{TakesLine, isBlank, step-leaves, at-map}
+use Rattle.roundtrip.proofs.Steps.{TakesLine, step-leaves, at-map}
 use Rattle.roundtrip.proofs.Numbers.{number-every, range-back}
 
 -- ---- a byte range as the value of a pair: no quote mark is in it
@@ -34,20 +34,20 @@ range-some (range n (some o)) = omega (arith, length-append (numberText n) (byte
 
 -- ---- the line without its LF
 abbrev mapText : List ℕ → Option ByteRange → List ℕ
-mapText u r = bytes "#EXT-X-MAP:URI=\"" ++ (u ++ (bytes "\"" ++ mapRangeBytes r))
+mapText u r = (literal mapRow ++ bytes "URI=\"") ++ (u ++ (bytes "\"" ++ mapRangeBytes r))
 
 before-lf : (u : List ℕ) (r : Option ByteRange) → lineBytes (mapLine u r) ≡ mapText u r ++ bytes "\n"
 before-lf u r = simp append-assoc
 
 module _ (text : List ℕ) (at : ℕ) (u : List ℕ) (r : Option ByteRange) (xs : List ℕ) (d : drop at text ≡ lineBytes (mapLine u r) ++ xs) where
-  ahead-map : drop at text ≡ bytes "#EXT-X-MAP:" ++ pairBytes (bytes "URI") u (mapRangeBytes r ++ (bytes "\n" ++ xs))
+  ahead-map : drop at text ≡ literal mapRow ++ pairBytes (bytes "URI") u (mapRangeBytes r ++ (bytes "\n" ++ xs))
   ahead-map = d ∙ simp append-assoc
 
   ahead-uri : drop (at + 11) text ≡ pairBytes (bytes "URI") u (mapRangeBytes r ++ (bytes "\n" ++ xs))
-  ahead-uri = on text at (bytes "#EXT-X-MAP:") _ ahead-map
+  ahead-uri = on text at (literal mapRow) _ ahead-map
 
   -- a step, from what its list reads as
-  map-step : Stops isBlank xs → (n : ℕ) (list : Span) → n ≡ at + length (mapText u r) → extmap text (at + 11) ≡ ok (extMap (span (uriFrom (at + 11)) (uriTo (at + 11) u)) r list) n
+  map-step : Stops isMultispace xs → (n : ℕ) (list : Span) → n ≡ at + length (mapText u r) → extmap text (at + 11) ≡ ok (extMap (span (uriFrom (at + 11)) (uriTo (at + 11) u)) r list) n
       → TakesLine text at (mapLine u r)
   map-step s n list z e =
       let m = extMap (span (uriFrom (at + 11)) (uriTo (at + 11) u)) r list in
@@ -58,7 +58,7 @@ module _ (text : List ℕ) (at : ℕ) (u : List ℕ) (r : Option ByteRange) (xs 
       (took at (ofClip (mapped m)), w ∙ c, ap (λ (b : List ℕ). saysMap b r) (shows text (uriFrom (at + 11)) u _ h))
 
 -- ---- a map, with a range and without
-module _ (text : List ℕ) (at : ℕ) (xs : List ℕ) (s : Stops isBlank xs) where
+module _ (text : List ℕ) (at : ℕ) (xs : List ℕ) (s : Stops isMultispace xs) where
   with-range : (y : ℕ) (val : List ℕ) → Every (isNoneOf (bytes "\"")) (y ∷ val) → (r : ByteRange) → NumbersFit r → (b : List ℕ) → rangeBytes r ≡ b → 0 < length b
       → drop at text ≡ lineBytes (mapLine (y ∷ val) (some r)) ++ xs → TakesLine text at (mapLine (y ∷ val) (some r))
   unfolding begins

@@ -14,16 +14,17 @@ use Rattle.text.specs.BasicTags.{ExtTag, PlaylistType}
 use Rattle.text.specs.Lines.{unlines}
 use Rattle.text.proofs.Ahead.{Every, every-append, on, run-ahead, tag-ahead, line-ahead}
 use Rattle.digits.specs.Digits.{numberText}
-use Rattle.verdict.specs.Verdict.{masterTag, mediaTag, playlistTag, segmentTag, nothing, decides, isMasterPlaylistTagLine, media, verdictFrom}
+use Rattle.verdict.specs.Verdict.{masterKind, mediaKind, playlistKind, segmentKind, nothing, decides, isMasterPlaylistTagLine, media, verdictFrom}
 use Rattle.verdict.specs.Calls.{header, verdictOf}
 use Rattle.verdict.proofs.FirstSaid.{verdict-step}
-use Rattle.media.specs.Assembly.{Head, head, Clip}
+use Rattle.assembly.specs.Assembly.{Head, head, Clip}
 use Rattle.playlist.specs.Lines.{Line, independentSegmentsLine, versionLine, targetDurationLine, lineBytes, lineIf, lineWhere, headLines, playlistText}
 use Rattle.roundtrip.specs.Premises.{all}
 use Rattle.roundtrip.proofs.Told.{bodyLines}
 use Rattle.roundtrip.proofs.Steps.{every-all}
 use Rattle.roundtrip.proofs.Numbers.{number-every}
 use Rattle.roundtrip.proofs.Fitting.{playlist-text}
+use Rattle.tags.specs.Tags.{literal, independentSegmentsRow, versionRow}
 
 abbrev isBreak : ℕ → Bool
 isBreak = isOneOf (bytes "\r\n")
@@ -42,7 +43,7 @@ module _ (text : List ℕ) (at : ℕ) (nl : List ℕ) (breaks : Every isBreak nl
 
   -- a line that no tag begins says nothing
   line-quiet : drop at text ≡ nl ++ (35 ∷ b ++ (bytes "\n" ++ xs))
-      → ((m : ℕ) → drop m text ≡ 35 ∷ b ++ (bytes "\n" ++ xs) → alt masterTag mediaTag text m ≡ fail otherText) → isMasterPlaylistTagLine text at ≡ ok nothing (at + length nl + length (35 ∷ b) + 1)
+      → ((m : ℕ) → drop m text ≡ 35 ∷ b ++ (bytes "\n" ++ xs) → alt masterKind mediaKind text m ≡ fail otherText) → isMasterPlaylistTagLine text at ≡ ok nothing (at + length nl + length (35 ∷ b) + 1)
   unfolding isMasterPlaylistTagLine Every
   line-quiet d unknown =
       let m = at + length nl in
@@ -54,7 +55,7 @@ module _ (text : List ℕ) (at : ℕ) (nl : List ℕ) (breaks : Every isBreak nl
 
   -- a line that a tag of media playlists begins decides
   line-decides : (t : List ℕ) → drop at text ≡ nl ++ (35 ∷ t ++ (b ++ (bytes "\n" ++ xs)))
-      → ((m : ℕ) → drop m text ≡ 35 ∷ t ++ (b ++ (bytes "\n" ++ xs)) → alt masterTag mediaTag text m ≡ ok false (m + length (35 ∷ t)))
+      → ((m : ℕ) → drop m text ≡ 35 ∷ t ++ (b ++ (bytes "\n" ++ xs)) → alt masterKind mediaKind text m ≡ ok false (m + length (35 ∷ t)))
       → isMasterPlaylistTagLine text at ≡ ok (decides false (at + length nl)) (at + length nl + length (35 ∷ t) + length b + 1)
   unfolding isMasterPlaylistTagLine
   line-decides t d known =
@@ -64,16 +65,16 @@ module _ (text : List ℕ) (at : ℕ) (nl : List ℕ) (breaks : Every isBreak nl
 
 -- ---- what the tags of the verdict make of the lines that may stand first
 module _ (text : List ℕ) (at : ℕ) (xs : List ℕ) where
-  at-version : drop at text ≡ bytes "#EXT-X-VERSION:" ++ xs → alt masterTag mediaTag text at ≡ fail otherText
-  unfolding masterTag mediaTag playlistTag segmentTag tagged begins
+  at-version : drop at text ≡ literal versionRow ++ xs → alt masterKind mediaKind text at ≡ fail otherText
+  unfolding masterKind mediaKind playlistKind segmentKind tagged begins
   at-version h = rw h
 
-  at-independent : drop at text ≡ bytes "#EXT-X-INDEPENDENT-SEGMENTS" ++ xs → alt masterTag mediaTag text at ≡ fail otherText
-  unfolding masterTag mediaTag playlistTag segmentTag tagged begins
+  at-independent : drop at text ≡ literal independentSegmentsRow ++ xs → alt masterKind mediaKind text at ≡ fail otherText
+  unfolding masterKind mediaKind playlistKind segmentKind tagged begins
   at-independent h = rw h
 
-  at-target : drop at text ≡ bytes "#EXT-X-TARGETDURATION" ++ xs → alt masterTag mediaTag text at ≡ ok false (at + 21)
-  unfolding masterTag mediaTag playlistTag segmentTag tagged begins
+  at-target : drop at text ≡ bytes "#EXT-X-TARGETDURATION" ++ xs → alt masterKind mediaKind text at ≡ ok false (at + 21)
+  unfolding masterKind mediaKind playlistKind segmentKind tagged begins
   at-target h = rw h
 
 -- ---- the lines of a head up to its target duration
@@ -121,10 +122,10 @@ module _ (text : List ℕ) where
   -- it is media, whatever the list
   pub verdict-media : (h : Head) (cs : List Clip) (tags : List ExtTag) → verdictOf (playlistText text h cs tags) ≡ media
   unfolding verdictOf Every
-  verdict-media (head v d m c p e i n) cs tags =
-      let w = playlistText text (head v d m c p e i n) cs tags in
-      let b = lines-begin text v d m c p e i n cs tags in
-      version-media w d (b .0) v n 7 (bytes "\n") (refl, tt) (ap (drop 7) (playlist-text text _ cs tags) ∙ ap (λ (ls : List Line). bytes "\n" ++ unlines lineBytes ls) (b .1))
+  verdict-media hd cs tags =
+      let w = playlistText text hd cs tags in
+      let b = lines-begin text (hd .version) (hd .target) (hd .sequence) (hd .discontinuities) (hd .type) (hd .ended) (hd .iFrames) (hd .independent) cs tags in
+      version-media w (hd .target) (b .0) (hd .version) (hd .independent) 7 (bytes "\n") (refl, tt) (ap (drop 7) (playlist-text text _ cs tags) ∙ ap (λ (ls : List Line). bytes "\n" ++ unlines lineBytes ls) (b .1))
 
   -- and the header is there
   pub header-there : (h : Head) (cs : List Clip) (tags : List ExtTag) → tagged header (playlistText text h cs tags) 0 ≡ true

@@ -15,10 +15,10 @@ use Rattle.text.proofs.Laws.{and-left}
 use Rattle.text.proofs.Ahead.{Every, Stops, on, tagged-ahead, tag-ahead, parsed-ahead}
 use Rattle.lengths.specs.Duration.{sideDigits, ns, lengthOf, float}
 use Rattle.lengths.proofs.Ahead.{written, float-whole-ahead, float-both-ahead}
-use Rattle.digits.specs.Digits.{second, numberText, fractionBy, fractionText, lengthText}
+use Rattle.tables.specs.Layout.{second, lengthLimit}
+use Rattle.digits.specs.Digits.{numberText, fractionBy, fractionText, lengthText}
 use Rattle.digits.proofs.Number.{Digits, number-digits, number-parts, number-short}
 use Rattle.digits.proofs.Length.{fraction-short, fraction-back, fraction-parts}
-use Rattle.tables.specs.Layout.{lengthLimit}
 use Rattle.playlist.specs.Lines.{rangeBytes}
 use Rattle.roundtrip.proofs.Said.{NumbersFit}
 
@@ -79,11 +79,11 @@ range-back text at (range n (some o)) h xs s q d =
 
 -- ---- a length
 -- nine digits at most, and nine behind the point, are a length exactly
-whole-ns : (x : ℕ) (b : List ℕ) → length (x ∷ b) ≤ sideDigits → lengthOf (written (x ∷ b)) none ≡ ns (decimal 0 (x ∷ b) * 10 ^ 9)
+whole-ns : (x : ℕ) (b : List ℕ) → length (x ∷ b) ≤ sideDigits → lengthOf (written (x ∷ b)) none ≡ ns (decimal 0 (x ∷ b) * second)
 whole-ns x b k = rw (le-leb (length (x ∷ b)) sideDigits k)
 
 both-ns : (x : ℕ) (b : List ℕ) (y : ℕ) (c : List ℕ) → length (x ∷ b) ≤ sideDigits → length (y ∷ c) ≤ sideDigits
-    → lengthOf (written (x ∷ b)) (some (written (y ∷ c))) ≡ ns (decimal 0 (x ∷ b) * 10 ^ 9 + decimal 0 (y ∷ c) * 10 ^ (9 - length (y ∷ c)))
+    → lengthOf (written (x ∷ b)) (some (written (y ∷ c))) ≡ ns (decimal 0 (x ∷ b) * second + decimal 0 (y ∷ c) * 10 ^ (9 - length (y ∷ c)))
 both-ns x b y c k m = rw (le-leb (length (x ∷ b)) sideDigits k, le-leb (length (y ∷ c)) sideDigits m)
 
 module _ (text : List ℕ) (at l : ℕ) (h : l < lengthLimit) (xs : List ℕ) (s : Stops isDigit xs) (q : begins (bytes ".") xs ≡ false) where
@@ -93,7 +93,7 @@ module _ (text : List ℕ) (at l : ℕ) (h : l < lengthLimit) (xs : List ℕ) (s
   abbrev part : ℕ
   part = l % second
 
-  few-seconds : seconds < 10 ^ 9
+  few-seconds : seconds < second
   few-seconds = div-lt-iff-lt-mul (lit< tt) .1 h
 
   whole : Digits (numberText seconds) seconds
@@ -107,19 +107,19 @@ module _ (text : List ℕ) (at l : ℕ) (h : l < lengthLimit) (xs : List ℕ) (s
   length-whole z d =
       let w = whole in
       let e : drop at text ≡ (w .first ∷ w .rest) ++ xs = d ∙ ap (λ (b : List ℕ). b ++ xs) (w .parts) in
-      let y : seconds * 10 ^ 9 ≡ l = omega (arith, div-add-mod' l second, z) in
+      let y : seconds * second ≡ l = omega (arith, div-add-mod' l second, z) in
       rw (w .parts, float-whole-ahead text at (w .first) (w .rest) (w .every) xs s q e, whole-ns (w .first) (w .rest) whole-short, w .value, y)
 
   length-both : (part ≡ 0 → ⊥) → drop at text ≡ numberText seconds ++ (bytes "." ++ (fractionBy 9 part ++ xs))
       → float text at ≡ ok (ns l) (at + length (numberText seconds) + 1 + length (fractionBy 9 part))
   length-both z d =
       let w = whole in
-      let small : part < 10 ^ 9 = omega arith in
+      let small : part < second = omega arith in
       let f = fraction-parts 8 part z small in
       let e : drop at text ≡ (w .first ∷ w .rest) ++ (bytes "." ++ ((f .first ∷ f .rest) ++ xs)) = d ∙ rw (w .parts, f .parts) in
       let short : length (f .first ∷ f .rest) ≤ sideDigits = omega (arith, ap length (f .parts), fraction-short 9 part) in
       let v : decimal 0 (f .first ∷ f .rest) * 10 ^ (9 - length (f .first ∷ f .rest)) ≡ part = ap (λ (b : List ℕ). decimal 0 b * 10 ^ (9 - length b)) (sym (f .parts)) ∙ fraction-back 9 part small in
-      let y : seconds * 10 ^ 9 + part ≡ l = omega (arith, div-add-mod' l second) in
+      let y : seconds * second + part ≡ l = omega (arith, div-add-mod' l second) in
       rw (w .parts, f .parts, float-both-ahead text at (w .first) (w .rest) (w .every) (f .first) (f .rest) xs (f .every) s e, both-ns (w .first) (w .rest) (f .first) (f .rest) whole-short short, w .value, v, y)
 
   pub length-back : drop at text ≡ lengthText l ++ xs → float text at ≡ ok (ns l) (at + length (lengthText l))

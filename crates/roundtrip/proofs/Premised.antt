@@ -11,8 +11,8 @@ use Rattle.text.specs.BasicTags.{ExtTag, PlaylistType, event, vod, other}
 use Rattle.text.proofs.Laws.{and-left, and-right}
 use Rattle.text.proofs.Ahead.{Every}
 use Rattle.attributes.specs.ExtMap.{Map, extMap}
-use Rattle.media.specs.Assembly.{Head, head, segment, Clip, clip}
-use Rattle.records.specs.Same.{shown}
+use Rattle.assembly.specs.Assembly.{Head, segment, Clip, clip}
+use Rattle.text.specs.Spans.{shown}
 use Rattle.playlist.specs.Lines.{mapLineOf, tagLineOf, titleText}
 use Rattle.records.proofs.Back.{All}
 use Rattle.roundtrip.specs.Premises.{all, plainUri, plainUris, notNamedMap, noneNamedMap}
@@ -20,7 +20,7 @@ use Rattle.roundtrip.proofs.Said.{Clean}
 use Rattle.roundtrip.proofs.Gives.{If, Shows}
 use Rattle.roundtrip.proofs.Values.{SoundType, SoundMap}
 use Rattle.roundtrip.proofs.Unknown.{some-shown, passes-shown}
-use Rattle.roundtrip.proofs.Told.{TypeOther, TitleSome, TitlesSome}
+use Rattle.roundtrip.proofs.Told.{OtherSaid, TypeOther, TitleSome, TitlesSome}
 use Rattle.roundtrip.proofs.Fitting.{CleanType, CleanHead, CleanClip}
 use Rattle.roundtrip.proofs.Guaranteed.{all-take, SoundHeadOf, SoundClipOf, SoundTagOf}
 
@@ -54,13 +54,16 @@ module _ (text : List ℕ) where
   type-if (some t) h = type-of t h
 
   pub head-clean : (h : Head) → SoundHeadOf text h → CleanHead text h
-  head-clean (head v d m c p e i n) k = record { version = k .version; target = k .target; sequence = k .sequence; discontinuities = k .discontinuities; type = type-if p (k .type) }
+  head-clean hd k = record { version = k .version; target = k .target; sequence = k .sequence; discontinuities = k .discontinuities; type = type-if (hd .type) (k .type) }
 
   pub type-other : (h : Head) → SoundHeadOf text h → TypeOther text h
-  type-other (head v d m c none e i n) k = tt
-  type-other (head v d m c (some event) e i n) k = tt
-  type-other (head v d m c (some vod) e i n) k = tt
-  type-other (head v d m c (some (other s)) e i n) k = k .type .1
+  type-other h k = go (h .type) (k .type)
+    where
+      go : (p : Option PlaylistType) → If (SoundType text) p → OtherSaid text p
+      go none k = tt
+      go (some event) k = tt
+      go (some vod) k = tt
+      go (some (other s)) k = k .1
 
   -- ---- the clips
   title-some : (t : Option Span) → If (Shows (isNoneOf (bytes "\r\n,")) text) t → TitleSome text t

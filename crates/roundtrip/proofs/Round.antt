@@ -13,9 +13,9 @@ use Rattle.text.specs.Utf8.{utf8End}
 use Rattle.tables.specs.Layout.{clipWords, tagWords}
 use Rattle.tables.specs.Refusal.{given}
 use Rattle.verdict.specs.Calls.{textLimit, admitted}
-use Rattle.media.specs.Assembly.{Head, begin, lastOf, clipCount, keptTags}
+use Rattle.assembly.specs.Assembly.{Head, begin, lastOf, clipCount, keptTags}
 use Rattle.media.specs.Calls.{stepsOf, stopOf, read, parseMediaPlaylist, clipsRead, tagsRead}
-use Rattle.records.specs.Same.{shown, sameBytes}
+use Rattle.text.specs.Spans.{shown, sameBytes}
 use Rattle.records.proofs.Same.{same-refl}
 use Rattle.playlist.specs.Lines.{tagLineOf}
 use Rattle.records.proofs.Back.{All}

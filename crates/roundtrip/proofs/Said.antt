@@ -5,14 +5,15 @@ use mathlib.Core.Bool.{cond, false}
 use mathlib.Core.List.{List, [], _∷_, _++_}
 use mathlib.Core.Option.{Option, none, some}
 use Rattle.text.specs.Why.{Why}
-use Rattle.text.specs.Nom.{fail, bytes, isNoneOf, isOneOf, begins}
+use Rattle.text.specs.Nom.{fail, bytes, isNoneOf, begins, isMultispace}
 use Rattle.text.specs.Util.{ByteRange, range}
 use Rattle.text.specs.BasicTags.{ext}
 use Rattle.text.proofs.Ahead.{Every, Stops}
 use Rattle.attributes.specs.ExtMap.{extMap}
 use Rattle.lengths.specs.Duration.{Length, ns, extinf}
 use Rattle.tags.specs.Tags.{HeadTag, version, targetDuration, mediaSequence, discontinuitySequence, typed, iFramesOnly, independentSegments, endList, ClipTag, timed, ranged, discontinuity, mapped, Tag, ofHead, ofClip, unknown, comment, uri, leftOut, playlistTag, segmentTag, Taken, took}
-use Rattle.records.specs.Same.{shown, shownPart, ShownType, eventShown, vodShown, otherShown, shownType, sameBytes}
+use Rattle.text.specs.Spans.{shown, shownPart, sameBytes}
+use Rattle.records.specs.Same.{ShownType, eventShown, vodShown, otherShown, shownType}
 use Rattle.playlist.specs.Lines.{Line, headerLine, independentSegmentsLine, iFramesOnlyLine, discontinuityLine, endListLine, versionLine, targetDurationLine, mediaSequenceLine, discontinuitySequenceLine, playlistTypeLine, mapLine, byteRangeLine, unknownLine, extinfLine, uriLine, lineBytes}
 use Rattle.tables.specs.Layout.{lengthLimit}
 
@@ -117,7 +118,7 @@ Clean (unknownLine name rest) =
     Some name × (Every (isNoneOf (bytes "\r\n:")) name × (RestFits rest
     × ((xs : List ℕ) → ((why : Why) × (playlistTag (lineBytes (unknownLine name rest) ++ xs) 0 ≡ fail why)) × ((why : Why) × (segmentTag (lineBytes (unknownLine name rest) ++ xs) 0 ≡ fail why)))))
 Clean (extinfLine l t) = (l < lengthLimit) × Every (isNoneOf (bytes "\r\n,")) t
-Clean (uriLine u) = Some u × ((begins (bytes "#") u ≡ false) × (Stops (isOneOf (bytes " \t\r\n")) u × Every (isNoneOf (bytes "\r\n")) u))
+Clean (uriLine u) = Some u × ((begins (bytes "#") u ≡ false) × (Stops isMultispace u × Every (isNoneOf (bytes "\r\n")) u))
 Clean endListLine = Unit {0}
 
 -- of what follows: no blank, which would be skipped; and behind an EXTINF no comma
@@ -139,4 +140,4 @@ Behind (uriLine u) xs = Unit {0}
 Behind endListLine xs = Unit {0}
 
 abbrev pub Fits : Line → List ℕ → Type 0
-Fits l xs = Clean l × (Stops (isOneOf (bytes " \t\r\n")) xs × Behind l xs)
+Fits l xs = Clean l × (Stops isMultispace xs × Behind l xs)

@@ -16,11 +16,12 @@ use Rattle.text.specs.Lines.{unlines}
 use Rattle.text.proofs.Ahead.{Every}
 use Rattle.text.proofs.Laws.{digit-bounds}
 use Rattle.attributes.specs.ExtMap.{Map, extMap}
-use Rattle.digits.specs.Digits.{numberText, fractionBy, fractionText, second, lengthText}
+use Rattle.tables.specs.Layout.{second}
+use Rattle.digits.specs.Digits.{numberText, fractionBy, fractionText, lengthText}
 use Rattle.digits.proofs.Number.{number-digits}
 use Rattle.digits.proofs.Length.{fraction-digits}
-use Rattle.media.specs.Assembly.{Head, head, segment, Clip, clip}
-use Rattle.records.specs.Same.{shown, shownPart}
+use Rattle.assembly.specs.Assembly.{Head, segment, Clip, clip}
+use Rattle.text.specs.Spans.{shown, shownPart}
 use Rattle.playlist.specs.Lines.{Line, headerLine, independentSegmentsLine, iFramesOnlyLine, discontinuityLine, endListLine, versionLine, targetDurationLine, mediaSequenceLine, discontinuitySequenceLine, playlistTypeLine, mapLine, byteRangeLine, unknownLine, extinfLine, uriLine, rangeBytes, mapRangeBytes, restBytes, lineBytes, lineIf, lineWhere, lineUnlessZero, typeText, headLines, mapLineOf, tagLineOf, titleText, clipLines, clipsLines, endLines, playlistLines, playlistText}
 use Rattle.records.proofs.Back.{All, all-append}
 use Rattle.roundtrip.proofs.Edges.{plain}
@@ -28,6 +29,7 @@ use Rattle.roundtrip.proofs.Gives.{If, Part, Shows}
 use Rattle.roundtrip.proofs.Values.{SoundType, SoundMap}
 use Rattle.roundtrip.proofs.Guaranteed.{all-take, SoundHeadOf, SoundClipOf, SoundTagOf}
 use Rattle.roundtrip.proofs.Premised.{all-drop}
+use Rattle.tags.specs.Tags.{literal, byteRangeRow, discontinuityRow, discontinuitySequenceRow, endListRow, extinfRow, iFramesOnlyRow, independentSegmentsRow, mapRow, mediaSequenceRow, playlistTypeRow, targetDurationRow, versionRow}
 
 -- ---- digits are ASCII
 digits-plain : (b : List ℕ) → Every isDigit b → plain b ≡ true
@@ -88,29 +90,29 @@ module _ (Valid : List ℕ → Type 0) (valid-append : (a b : List ℕ) → Vali
 
   line-valid : (l : Line) → ValidParts l → Valid (lineBytes l)
   line-valid headerLine h = valid-plain (bytes "#EXTM3U\n") refl
-  line-valid (versionLine n) h = between (bytes "#EXT-X-VERSION:") (numberText n) refl (number-valid n)
-  line-valid independentSegmentsLine h = valid-plain (bytes "#EXT-X-INDEPENDENT-SEGMENTS\n") refl
-  line-valid (targetDurationLine n) h = between (bytes "#EXT-X-TARGETDURATION:") (numberText n) refl (number-valid n)
-  line-valid (mediaSequenceLine n) h = between (bytes "#EXT-X-MEDIA-SEQUENCE:") (numberText n) refl (number-valid n)
-  line-valid (discontinuitySequenceLine n) h = between (bytes "#EXT-X-DISCONTINUITY-SEQUENCE:") (numberText n) refl (number-valid n)
-  line-valid (playlistTypeLine t) h = between (bytes "#EXT-X-PLAYLIST-TYPE:") t refl h
-  line-valid iFramesOnlyLine h = valid-plain (bytes "#EXT-X-I-FRAMES-ONLY\n") refl
+  line-valid (versionLine n) h = between (literal versionRow) (numberText n) refl (number-valid n)
+  line-valid independentSegmentsLine h = valid-plain (literal independentSegmentsRow ++ bytes "\n") refl
+  line-valid (targetDurationLine n) h = between (literal targetDurationRow) (numberText n) refl (number-valid n)
+  line-valid (mediaSequenceLine n) h = between (literal mediaSequenceRow) (numberText n) refl (number-valid n)
+  line-valid (discontinuitySequenceLine n) h = between (literal discontinuitySequenceRow) (numberText n) refl (number-valid n)
+  line-valid (playlistTypeLine t) h = between (literal playlistTypeRow) t refl h
+  line-valid iFramesOnlyLine h = valid-plain (literal iFramesOnlyRow ++ bytes "\n") refl
   line-valid (mapLine u r) h =
-      valid-append (bytes "#EXT-X-MAP:URI=\"") _ (valid-plain (bytes "#EXT-X-MAP:URI=\"") refl)
+      valid-append (literal mapRow ++ bytes "URI=\"") _ (valid-plain (literal mapRow ++ bytes "URI=\"") refl)
       (valid-append u _ h
       (between (bytes "\"") (mapRangeBytes r) refl (map-range-valid r)))
-  line-valid (byteRangeLine r) h = between (bytes "#EXT-X-BYTERANGE:") (rangeBytes r) refl (range-valid r)
-  line-valid discontinuityLine h = valid-plain (bytes "#EXT-X-DISCONTINUITY\n") refl
+  line-valid (byteRangeLine r) h = between (literal byteRangeRow) (rangeBytes r) refl (range-valid r)
+  line-valid discontinuityLine h = valid-plain (literal discontinuityRow ++ bytes "\n") refl
   line-valid (unknownLine name rest) h =
       valid-append (bytes "#EXT-") _ (valid-plain (bytes "#EXT-") refl)
       (valid-append name _ (h .0)
       (between [] (restBytes rest) refl (rest-valid rest (h .1))))
   line-valid (extinfLine l t) h =
-      valid-append (bytes "#EXTINF:") _ (valid-plain (bytes "#EXTINF:") refl)
+      valid-append (literal extinfRow) _ (valid-plain (literal extinfRow) refl)
       (valid-append (lengthText l) _ (length-valid l)
       (between (bytes ",") t refl h))
   line-valid (uriLine u) h = between [] u refl h
-  line-valid endListLine h = valid-plain (bytes "#EXT-X-ENDLIST\n") refl
+  line-valid endListLine h = valid-plain (literal endListRow ++ bytes "\n") refl
 
   lines-valid : (ls : List Line) → All ValidParts ls → Valid (unlines lineBytes ls)
   unfolding unlines All
@@ -149,15 +151,15 @@ module _ (Valid : List ℕ → Type 0) (valid-append : (a b : List ℕ) → Vali
 
     head-valid : (h : Head) → SoundHeadOf text h → All ValidParts (headLines text h)
     unfolding headLines
-    head-valid (head v d m c p e i n) k =
+    head-valid hd k =
         all-append ValidParts (headerLine ∷ []) _ (all-one headerLine tt)
-        (all-append ValidParts (lineIf versionLine v) _ (if-line versionLine v (version-if v))
-        (all-append ValidParts (lineWhere independentSegmentsLine n) _ (where-line independentSegmentsLine tt n)
-        (all-append ValidParts (targetDurationLine d ∷ []) _ (all-one (targetDurationLine d) tt)
-        (all-append ValidParts (lineUnlessZero mediaSequenceLine m) _ (unless-line mediaSequenceLine (λ _. tt) m)
-        (all-append ValidParts (lineUnlessZero discontinuitySequenceLine c) _ (unless-line discontinuitySequenceLine (λ _. tt) c)
-        (all-append ValidParts (lineIf (λ t. playlistTypeLine (typeText text t)) p) _ (if-line (λ t. playlistTypeLine (typeText text t)) p (type-valid p (k .type)))
-        (where-line iFramesOnlyLine tt i)))))))
+        (all-append ValidParts (lineIf versionLine (hd .version)) _ (if-line versionLine (hd .version) (version-if (hd .version)))
+        (all-append ValidParts (lineWhere independentSegmentsLine (hd .independent)) _ (where-line independentSegmentsLine tt (hd .independent))
+        (all-append ValidParts (targetDurationLine (hd .target) ∷ []) _ (all-one (targetDurationLine (hd .target)) tt)
+        (all-append ValidParts (lineUnlessZero mediaSequenceLine (hd .sequence)) _ (unless-line mediaSequenceLine (λ _. tt) (hd .sequence))
+        (all-append ValidParts (lineUnlessZero discontinuitySequenceLine (hd .discontinuities)) _ (unless-line discontinuitySequenceLine (λ _. tt) (hd .discontinuities))
+        (all-append ValidParts (lineIf (λ t. playlistTypeLine (typeText text t)) (hd .type)) _ (if-line (λ t. playlistTypeLine (typeText text t)) (hd .type) (type-valid (hd .type) (k .type)))
+        (where-line iFramesOnlyLine tt (hd .iFrames))))))))
       where
         version-if : (v : Option ℕ) → If (λ a. ValidParts (versionLine a)) v
         version-if none = tt
@@ -204,7 +206,7 @@ module _ (Valid : List ℕ → Type 0) (valid-append : (a b : List ℕ) → Vali
       clips-valid (c ∷ cs) h = all-append ValidParts (clipLines text tags c) (clipsLines text tags cs) (clip-valid c (h .0)) (clips-valid cs (h .1))
 
     end-valid : (h : Head) → All ValidParts (endLines h)
-    end-valid (head v d m c p e i n) = where-line endListLine tt e
+    end-valid hd = where-line endListLine tt (hd .ended)
 
     pub playlist-valid : (h : Head) (cs : List Clip) (gs : List ExtTag) → SoundHeadOf text h → All (SoundClipOf text) cs → All (SoundTagOf text) gs → Valid (playlistText text h cs gs)
     unfolding playlistText playlistLines

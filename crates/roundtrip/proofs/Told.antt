@@ -13,9 +13,10 @@ use Rattle.text.specs.Util.{ByteRange}
 use Rattle.text.specs.BasicTags.{ExtTag, ext, PlaylistType, event, vod, other}
 use Rattle.attributes.specs.ExtMap.{Map, extMap}
 use Rattle.tags.specs.Tags.{Tag, ofHead, ofClip, unknown, comment, uri, leftOut, Taken, took}
-use Rattle.media.specs.Assembly.{Head, head, segment, State, state, begin, next, Clip, clip, clipIn, lastOf, clipsOf, tagsOf, keptTags}
-use Rattle.media.proofs.Counts.{kept}
-use Rattle.records.specs.Same.{shown, shownPart, otherShown, shownTypeIf, ShownHead, headShown, shownHead, ShownTag, shownTag, ShownMap, shownMap, ShownClip, clipShown, shownClip, sameAll}
+use Rattle.assembly.specs.Assembly.{Head, head, segment, State, begin, next, Clip, clip, clipIn, lastOf, clipsOf, tagsOf, keptTags}
+use Rattle.assembly.proofs.Counts.{kept}
+use Rattle.text.specs.Spans.{shown, shownPart, sameAll}
+use Rattle.records.specs.Same.{otherShown, shownTypeIf, ShownHead, headShown, shownHead, ShownTag, shownTag, ShownMap, shownMap, ShownClip, clipShown, shownClip}
 use Rattle.playlist.specs.Lines.{Line, headerLine, independentSegmentsLine, iFramesOnlyLine, discontinuityLine, endListLine, versionLine, targetDurationLine, mediaSequenceLine, discontinuitySequenceLine, playlistTypeLine, byteRangeLine, extinfLine, uriLine, lineIf, lineWhere, lineUnlessZero, typeText, headLines, mapLineOf, tagLineOf, titleText, clipLines, clipsLines, endLines, playlistLines}
 use Rattle.roundtrip.proofs.Said.{Said, Some, typeSays, titleSays, lineSays}
 use Rattle.roundtrip.proofs.Assembled.{Making, making, SaidState, saidState, emptyMaking, beginSaid, nextSaid, clipSaid, lastSaid, clipsSaid}
@@ -37,11 +38,14 @@ module _ (text : List ℕ) where
   TitlesSome (clip u (segment l t r d m) f n ∷ cs) = TitleSome t × TitlesSome cs
 
   -- another type's text says another type
+  abbrev pub OtherSaid : Option PlaylistType → Type 0
+  OtherSaid none = Unit {0}
+  OtherSaid (some event) = Unit {0}
+  OtherSaid (some vod) = Unit {0}
+  OtherSaid (some (other s)) = typeSays (shown text s) ≡ otherShown (shown text s)
+
   abbrev pub TypeOther : Head → Type 0
-  TypeOther (head v d m c none e i n) = Unit {0}
-  TypeOther (head v d m c (some event) e i n) = Unit {0}
-  TypeOther (head v d m c (some vod) e i n) = Unit {0}
-  TypeOther (head v d m c (some (other s)) e i n) = typeSays (shown text s) ≡ otherShown (shown text s)
+  TypeOther h = OtherSaid (h .type)
 
 -- ---- the lines behind the header
 unfoldable pub bodyLines : List ℕ → Head → List Clip → List ExtTag → List Line
@@ -49,7 +53,7 @@ bodyLines text h cs gs = drop 1 (headLines text h) ++ (clipsLines text gs cs ++ 
 
 pub header-first : (text : List ℕ) (h : Head) (cs : List Clip) (gs : List ExtTag) → playlistLines text h cs gs ≡ headerLine ∷ bodyLines text h cs gs
 unfolding playlistLines headLines bodyLines
-header-first text (head v d m c p e i n) cs gs = refl
+header-first text hd cs gs = refl
 
 -- ---- what lines tell: from one state to another, and the clips that they end
 pub record Tells (a : SaidState) (ls : List Line) (cs : List ShownClip) (b : SaidState) : Type 0 where
@@ -104,7 +108,7 @@ tells-unless-zero line at h k (suc n) = tells-line (line (suc n)) (h (suc n)) (k
 -- ---- the head
 -- all but the end, which is told last
 abbrev unended : Head → Head
-unended (head v d m c p e i n) = head v d m c p false i n
+unended hd = head (hd .version) (hd .target) (hd .sequence) (hd .discontinuities) (hd .type) false (hd .iFrames) (hd .independent)
 
 -- before any clip
 abbrev only : ShownHead → SaidState
@@ -121,14 +125,14 @@ module _ (text : List ℕ) where
 
   tells-head : (h : Head) → TypeOther text h → Tells beginSaid (drop 1 (headLines text h)) [] (only (shownHead text (unended h)))
   unfolding headLines
-  tells-head (head v d m c p e i n) h =
-      tells-append (tells-if versionLine (λ x. only (headShown x 0 0 0 none false false false)) (λ x. refl) (λ x. refl) v)
-      (tells-append (tells-where independentSegmentsLine (λ x. only (headShown v 0 0 0 none false false x)) refl refl n)
-      (tells-append (tells-line (targetDurationLine d) refl refl)
-      (tells-append (tells-unless-zero mediaSequenceLine (λ x. only (headShown v d x 0 none false false n)) (λ x. refl) (λ x. refl) m)
-      (tells-append (tells-unless-zero discontinuitySequenceLine (λ x. only (headShown v d m x none false false n)) (λ x. refl) (λ x. refl) c)
-      (tells-append (tells-type v d m c p false false n h)
-      (tells-where iFramesOnlyLine (λ x. only (headShown v d m c (shownTypeIf text p) false x n)) refl refl i))))))
+  tells-head hd h =
+      tells-append (tells-if versionLine (λ x. only (headShown x 0 0 0 none false false false)) (λ x. refl) (λ x. refl) (hd .version))
+      (tells-append (tells-where independentSegmentsLine (λ x. only (headShown (hd .version) 0 0 0 none false false x)) refl refl (hd .independent))
+      (tells-append (tells-line (targetDurationLine (hd .target)) refl refl)
+      (tells-append (tells-unless-zero mediaSequenceLine (λ x. only (headShown (hd .version) (hd .target) x 0 none false false (hd .independent))) (λ x. refl) (λ x. refl) (hd .sequence))
+      (tells-append (tells-unless-zero discontinuitySequenceLine (λ x. only (headShown (hd .version) (hd .target) (hd .sequence) x none false false (hd .independent))) (λ x. refl) (λ x. refl) (hd .discontinuities))
+      (tells-append (tells-type (hd .version) (hd .target) (hd .sequence) (hd .discontinuities) (hd .type) false false (hd .independent) h)
+      (tells-where iFramesOnlyLine (λ x. only (headShown (hd .version) (hd .target) (hd .sequence) (hd .discontinuities) (shownTypeIf text (hd .type)) false x (hd .independent))) refl refl (hd .iFrames)))))))
 
 -- ---- the clips
 pub adjoin-all : (f : ℕ) (cs : List Clip) (total : ℕ) → Adjoin f cs total → f ≤ total
@@ -187,7 +191,7 @@ module _ (text : List ℕ) where
 
 -- ---- the whole
 tells-end : (h : Head) (text : List ℕ) (f : ℕ) → Tells (saidState (shownHead text (unended h)) emptyMaking f []) (endLines h) [] (saidState (shownHead text h) emptyMaking f [])
-tells-end (head v d m c p e i n) text f = tells-where endListLine (λ x. saidState (headShown v d m c (shownTypeIf text p) x i n) emptyMaking f []) refl refl e
+tells-end hd text f = tells-where endListLine (λ x. saidState (headShown (hd .version) (hd .target) (hd .sequence) (hd .discontinuities) (shownTypeIf text (hd .type)) x (hd .iFrames) (hd .independent)) emptyMaking f []) refl refl (hd .ended)
 
 pub told : (text : List ℕ) (h : Head) (cs : List Clip) (gs : List ExtTag) → TypeOther text h → TitlesSome text cs → Adjoin 0 cs (length gs)
     → Tells beginSaid (bodyLines text h cs gs) (map (shownClip text gs) cs) (saidState (shownHead text h) emptyMaking (length gs) [])
@@ -199,12 +203,12 @@ told text h cs gs other-type some-titles adjoin =
 -- ---- a reading's clips adjoin
 adjoin-next : (s : State) (t : Tag) (cs : List Clip) (total : ℕ) → Adjoin (keptTags (next s t)) cs total → Adjoin (keptTags s) (clipIn s t ++ cs) total
 unfolding next
-adjoin-next (state h s c f p) (ofHead t) cs total a = a
-adjoin-next (state h s c f p) (ofClip t) cs total a = a
-adjoin-next (state h s c f p) (unknown t) cs total a = a
-adjoin-next (state h s c f p) (comment t) cs total a = a
-adjoin-next (state h s c f p) (uri u) cs total a = (refl, a)
-adjoin-next (state h s c f p) (leftOut x) cs total a = a
+adjoin-next s (ofHead t) cs total a = a
+adjoin-next s (ofClip t) cs total a = a
+adjoin-next s (unknown t) cs total a = a
+adjoin-next s (comment t) cs total a = a
+adjoin-next s (uri u) cs total a = (refl, a)
+adjoin-next s (leftOut x) cs total a = a
 
 adjoin-steps : (s : State) (ts : List Taken) → Adjoin (keptTags s) (clipsOf s ts) (keptTags (lastOf s ts))
 unfolding clipsOf lastOf

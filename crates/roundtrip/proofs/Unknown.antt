@@ -3,33 +3,29 @@
 use Prim.Native.Nat.{ℕ, zero, suc, _+_, _-_, _≤_, _<_}
 use mathlib.Core.Path.{_≡_, refl, sym, _∙_, ap}
 use mathlib.Core.Bool.{Bool, true, false, cond, not, _&&_, _||_, false≢true}
-use mathlib.Core.List.{List, [], _∷_, _++_, append-assoc}
+use mathlib.Core.List.{List, [], _∷_, _++_, append-assoc, map as mapᴸ}
 use mathlib.Core.Option.{Option, none, some}
 use native.Mathlib.Omega.{arith}
 use native.Mathlib.Nat.{add-zero}
 use lib.Dec.{ltb, eqb}
 use lib.ListN.{length, take, drop, getD, length-drop, take-append-drop}
 use lib.Seq.{drop-drop, drop-cons}
-use borrow.Author.Tests.{ltb-true, eqb-true, eq-eqb, ne-eqb}
+use borrow.Author.Tests.{ltb-true, eqb-true, eq-eqb}
 use Rattle.text.specs.Why.{otherText, nameEmpty, missingByte}
-use Rattle.text.specs.Nom.{Res, Parser, Span, span, bytes, isNoneOf, begins, tagged, afterTag, run, runEnd, spanOr, orElse, tag, map, preceded}
-use Rattle.text.specs.Util.{number, numberOrZero, byteRangeVal}
-use Rattle.text.specs.BasicTags.{ExtTag, ext, extTag, playlistType}
+use Rattle.text.specs.Nom.{Res, Parser, Span, span, bytes, begins, tagged, afterTag, run, runEnd, spanOr, orElse, tag, map, preceded}
+use Rattle.text.specs.BasicTags.{ExtTag, ext, extTag}
 use Rattle.text.proofs.Ahead.{Every, Stops, run-ends, tagged-ahead, after-ahead, after-not}
 use Rattle.text.proofs.Laws.{and-left, and-right, run-from}
-use Rattle.attributes.specs.ExtMap.{extmap}
-use Rattle.lengths.specs.Duration.{durationTitleTag}
-use Rattle.tags.specs.Tags.{Tag, version, targetDuration, mediaSequence, discontinuitySequence, typed, iFramesOnly, independentSegments, endList, timed, ranged, discontinuity, mapped, ofHead, ofClip, start, key, programDateTime, dateRange, leftOut, marks, playlistTag, segmentTag}
-use Rattle.records.specs.Same.{shown, shownPart, sameAll, sameBytes}
+use Rattle.tags.specs.Tags.{Tag, marks, Row, row, mark, literal, reads, firstOf, playlistRows, playlistTag, segmentRows, clipsFrom, segmentTag}
+use Rattle.tags.proofs.Rows.{holdAll, Each, of-rows, Facts, head-facts, clip-facts}
+use Rattle.text.specs.Spans.{shown, shownPart, sameBytes}
 use Rattle.playlist.specs.Lines.{unknownLine, lineBytes}
 use Rattle.roundtrip.proofs.Said.{Some, Clean}
 use Rattle.roundtrip.proofs.Gives.{Gives, gives-done, gives-when, gives-bind, Shows}
 use Rattle.roundtrip.proofs.Values.{SoundExt}
-use Rattle.roundtrip.proofs.Sound.{Unread}
-use Rattle.roundtrip.proofs.Alike.{Failed, alt-failed, failed-alt, lineByte, Breaks, every, begins-before, begins-split, OnLine, tagged-line, alike-number, alike-number-or-zero, alike-range, alike-type, mark-failed, alike-mark, alike-after}
-
-abbrev nameByte : ℕ → Bool
-nameByte = isNoneOf (bytes "\r\n:")
+use Rattle.roundtrip.proofs.Sounds.{Unread}
+use Rattle.roundtrip.proofs.Rows.{nameByte, restLine, Twice, Keep, head-kept, clip-kept}
+use Rattle.roundtrip.proofs.Alike.{Failed, alt-failed, failed-alt, lineByte, Breaks, every, begins-before, begins-split, OnLine, tagged-line, mark-failed, alike-mark}
 
 -- ---- what the rule of unknown tags has read
 module _ (text : List ℕ) (at : ℕ) where
@@ -149,14 +145,6 @@ begins-lacks p (y ∷ t) (x ∷ l) h k = go (eqb x y) refl (begins-lacks p t l (
     go true q ih = ih (lacks (ap p (sym (eqb-true x y q)) ∙ and-left (p x) (every p l) h))
     go false q ih = refl
 
--- a word with a byte behind it that neither it nor the name has is there only where it is the name
-begins-named : (p : ℕ → Bool) (c : ℕ) → p c ≡ false → (t name s : List ℕ) → every p t ≡ true → every p name ≡ true → begins (t ++ (c ∷ [])) (name ++ (c ∷ s)) ≡ sameBytes name t
-unfolding begins sameAll
-begins-named p c e [] [] s h k = rw (eq-eqb c c refl)
-begins-named p c e [] (x ∷ name) s h k = rw (ne-eqb x c (λ q. false≢true (sym e ∙ ap p (sym q) ∙ and-left (p x) (every p name) k)))
-begins-named p c e (y ∷ t) [] s h k = rw (ne-eqb c y (λ q. false≢true (sym e ∙ ap p q ∙ and-left (p y) (every p t) h)))
-begins-named p c e (y ∷ t) (x ∷ name) s h k = rw (begins-named p c e t name s (and-right (p y) (every p t) h) (and-right (p x) (every p name) k))
-
 every-of : (p : ℕ → Bool) (l : List ℕ) → Every p l → every p l ≡ true
 unfolding Every
 every-of p [] h = refl
@@ -174,6 +162,20 @@ module _ (text : List ℕ) (at : ℕ) (out t : List ℕ) (e : tagged t out 0 ≡
   mark-none : (x : Tag) → Failed (marks x (tag t) text at) → Failed (marks x (tag t) out 0)
   mark-none x _ = (otherText, rw e)
 
+-- the rows, one by one
+module _ (text : List ℕ) (at : ℕ) (out : List ℕ) (F : ℕ → Row → Type 0) (t : Row → Bool) (one : (k : ℕ) (r : Row) → t r ≡ true → F k r → Failed (reads r text at) → Failed (reads r out 0)) where
+  follow-rows : (k : ℕ) (rs : List Row) → holdAll t rs ≡ true → Each F k rs → Failed (firstOf (mapᴸ reads rs) text at) → Failed (firstOf (mapᴸ reads rs) out 0)
+  follow-rows = of-rows (λ p. Failed (p text at) → Failed (p out 0)) (λ _. (otherText, refl)) (λ p q hp hq. follows-alt (p text at) (q text at) (p out 0) (q out 0) hp hq) F t one
+
+-- what a rule follows has a colon before it
+abbrev bareRow : Row → Bool
+bareRow (row t p f) = every lineByte t && not (every nameByte t)
+bareRow (mark t x) = every lineByte t
+
+not-so : (b : Bool) → not b ≡ true → b ≡ false
+not-so true e = sym e
+not-so false e = refl
+
 -- a line with no rest has no colon: the texts that have one are not there, and the others are there or not by the name
 module _ (text : List ℕ) (at : ℕ) (out name s : List ℕ) (w : OnLine out 0 (bytes "#EXT-" ++ name)) (plain : every nameByte name ≡ true)
     (ahead : drop at text ≡ bytes "#EXT-" ++ (name ++ s)) (stops : Stops nameByte s) where
@@ -186,66 +188,35 @@ module _ (text : List ℕ) (at : ℕ) (out name s : List ℕ) (w : OnLine out 0 
       let e : tagged t text at ≡ begins t line = tagged-ahead text at t _ ahead ∙ begins-before nameByte t line s k stops in
       rw (tagged-line out 0 line w t h) (mark-failed t x (begins t line) at 0 (rw e at f))
 
+  row-bare : (k : ℕ) (r : Row) → bareRow r ≡ true → Facts k r → Failed (reads r text at) → Failed (reads r out 0)
+  row-bare k (row t p f) e h = after-none text at out t (lacks t (and-left (every lineByte t) _ e) (not-so (every nameByte t) (and-right (every lineByte t) _ e))) f p
+  row-bare k (mark t x) e h = go (every nameByte t) refl
+    where
+      go : (b : Bool) → every nameByte t ≡ b → Failed (marks x (tag t) text at) → Failed (marks x (tag t) out 0)
+      go true q = bare t e q x
+      go false q = mark-none text at out t (lacks t e q) x
+
   head-bare : Failed (playlistTag text at) → Failed (playlistTag out 0)
   unfolding playlistTag
-  head-bare =
-      follows-alt _ _ _ _ (after-none text at out _ (lacks (bytes "#EXT-X-VERSION:") refl refl) (λ x. ofHead (version x)) numberOrZero)
-      (follows-alt _ _ _ _ (after-none text at out _ (lacks (bytes "#EXT-X-TARGETDURATION:") refl refl) (λ x. ofHead (targetDuration x)) number)
-      (follows-alt _ _ _ _ (after-none text at out _ (lacks (bytes "#EXT-X-MEDIA-SEQUENCE:") refl refl) (λ x. ofHead (mediaSequence x)) number)
-      (follows-alt _ _ _ _ (after-none text at out _ (lacks (bytes "#EXT-X-DISCONTINUITY-SEQUENCE:") refl refl) (λ x. ofHead (discontinuitySequence x)) number)
-      (follows-alt _ _ _ _ (after-none text at out _ (lacks (bytes "#EXT-X-PLAYLIST-TYPE:") refl refl) (λ x. ofHead (typed x)) playlistType)
-      (follows-alt _ _ _ _ (bare (bytes "#EXT-X-I-FRAMES-ONLY") refl refl (ofHead iFramesOnly))
-      (follows-alt _ _ _ _ (mark-none text at out _ (lacks (bytes "#EXT-X-START:") refl refl) (leftOut start))
-      (follows-alt _ _ _ _ (bare (bytes "#EXT-X-INDEPENDENT-SEGMENTS") refl refl (ofHead independentSegments))
-      (bare (bytes "#EXT-X-ENDLIST") refl refl (ofHead endList)))))))))
+  head-bare = follow-rows text at out Facts bareRow row-bare 0 playlistRows refl head-facts
 
   clip-bare : Failed (segmentTag text at) → Failed (segmentTag out 0)
   unfolding segmentTag
-  clip-bare =
-      follows-alt _ _ _ _ (after-none text at out _ (lacks (bytes "#EXTINF:") refl refl) (λ x. ofClip (timed x)) durationTitleTag)
-      (follows-alt _ _ _ _ (after-none text at out _ (lacks (bytes "#EXT-X-BYTERANGE:") refl refl) (λ x. ofClip (ranged x)) byteRangeVal)
-      (follows-alt _ _ _ _ (bare (bytes "#EXT-X-DISCONTINUITY") refl refl (ofClip discontinuity))
-      (follows-alt _ _ _ _ (mark-none text at out _ (lacks (bytes "#EXT-X-KEY:") refl refl) (leftOut key))
-      (follows-alt _ _ _ _ (after-none text at out _ (lacks (bytes "#EXT-X-MAP:") refl refl) (λ x. ofClip (mapped x)) extmap)
-      (follows-alt _ _ _ _ (mark-none text at out _ (lacks (bytes "#EXT-X-PROGRAM-DATE-TIME:") refl refl) (leftOut programDateTime))
-      (mark-none text at out _ (lacks (bytes "#EXT-X-DATERANGE:") refl refl) (leftOut dateRange)))))))
+  clip-bare = follow-rows text at out Facts bareRow row-bare clipsFrom segmentRows refl clip-facts
 
 -- a line with a rest is written as it stood
-module _ (text : List ℕ) (at : ℕ) (out name rest : List ℕ) (plain : every nameByte name ≡ true) (not-map : sameBytes name (bytes "X-MAP") ≡ false)
-    (w : OnLine text at (bytes "#EXT-" ++ (name ++ (bytes ":" ++ rest)))) (w′ : OnLine out 0 (bytes "#EXT-" ++ (name ++ (bytes ":" ++ rest)))) where
-  no-extinf : tagged (bytes "#EXTINF:") out 0 ≡ false
-  unfolding begins
-  no-extinf = tagged-line out 0 _ w′ (bytes "#EXTINF:") refl
-
-  no-map : tagged (bytes "#EXT-X-MAP:") out 0 ≡ false
-  unfolding begins
-  no-map = tagged-line out 0 _ w′ (bytes "#EXT-X-MAP:") refl ∙ begins-named nameByte 58 refl (bytes "X-MAP") name rest refl plain ∙ not-map
+module _ (text : List ℕ) (at : ℕ) (out name rest : List ℕ) (w : Twice text at out name rest) where
+  row-whole : (k : ℕ) (r : Row) → every lineByte (literal r) ≡ true → Keep k r → Failed (reads r text at) → Failed (reads r out 0)
+  row-whole k (row t p f) e h = h .again e text at out name rest w
+  row-whole k (mark t x) e h = alike-mark t e x text at out 0 (restLine name rest) (w .stood) (w .written)
 
   head-whole : Failed (playlistTag text at) → Failed (playlistTag out 0)
   unfolding playlistTag
-  head-whole =
-      let line = bytes "#EXT-" ++ (name ++ (bytes ":" ++ rest)) in
-      follows-alt _ _ _ _ (alike-after (bytes "#EXT-X-VERSION:") refl (λ x. ofHead (version x)) numberOrZero alike-number-or-zero text at out 0 line w w′)
-      (follows-alt _ _ _ _ (alike-after (bytes "#EXT-X-TARGETDURATION:") refl (λ x. ofHead (targetDuration x)) number alike-number text at out 0 line w w′)
-      (follows-alt _ _ _ _ (alike-after (bytes "#EXT-X-MEDIA-SEQUENCE:") refl (λ x. ofHead (mediaSequence x)) number alike-number text at out 0 line w w′)
-      (follows-alt _ _ _ _ (alike-after (bytes "#EXT-X-DISCONTINUITY-SEQUENCE:") refl (λ x. ofHead (discontinuitySequence x)) number alike-number text at out 0 line w w′)
-      (follows-alt _ _ _ _ (alike-after (bytes "#EXT-X-PLAYLIST-TYPE:") refl (λ x. ofHead (typed x)) playlistType alike-type text at out 0 line w w′)
-      (follows-alt _ _ _ _ (alike-mark (bytes "#EXT-X-I-FRAMES-ONLY") refl (ofHead iFramesOnly) text at out 0 line w w′)
-      (follows-alt _ _ _ _ (alike-mark (bytes "#EXT-X-START:") refl (leftOut start) text at out 0 line w w′)
-      (follows-alt _ _ _ _ (alike-mark (bytes "#EXT-X-INDEPENDENT-SEGMENTS") refl (ofHead independentSegments) text at out 0 line w w′)
-      (alike-mark (bytes "#EXT-X-ENDLIST") refl (ofHead endList) text at out 0 line w w′))))))))
+  head-whole = follow-rows text at out Keep (λ r. every lineByte (literal r)) row-whole 0 playlistRows refl head-kept
 
   clip-whole : Failed (segmentTag text at) → Failed (segmentTag out 0)
   unfolding segmentTag
-  clip-whole =
-      let line = bytes "#EXT-" ++ (name ++ (bytes ":" ++ rest)) in
-      follows-alt _ _ _ _ (after-none text at out _ no-extinf (λ x. ofClip (timed x)) durationTitleTag)
-      (follows-alt _ _ _ _ (alike-after (bytes "#EXT-X-BYTERANGE:") refl (λ x. ofClip (ranged x)) byteRangeVal alike-range text at out 0 line w w′)
-      (follows-alt _ _ _ _ (alike-mark (bytes "#EXT-X-DISCONTINUITY") refl (ofClip discontinuity) text at out 0 line w w′)
-      (follows-alt _ _ _ _ (alike-mark (bytes "#EXT-X-KEY:") refl (leftOut key) text at out 0 line w w′)
-      (follows-alt _ _ _ _ (after-none text at out _ no-map (λ x. ofClip (mapped x)) extmap)
-      (follows-alt _ _ _ _ (alike-mark (bytes "#EXT-X-PROGRAM-DATE-TIME:") refl (leftOut programDateTime) text at out 0 line w w′)
-      (alike-mark (bytes "#EXT-X-DATERANGE:") refl (leftOut dateRange) text at out 0 line w w′))))))
+  clip-whole = follow-rows text at out Keep (λ r. every lineByte (literal r)) row-whole clipsFrom segmentRows refl clip-kept
 
 -- ---- so the line of an unknown tag that was taken is clean
 pub some-shown : (p : ℕ → Bool) (text : List ℕ) (s : Span) → Shows p text s → Some (shown text s)
@@ -281,7 +252,7 @@ module _ (text : List ℕ) (at : ℕ) (name : Span) (not-map : sameBytes (shown 
       let n = shown text name in
       let sh = shape text at (ext name (some r)) (u .read .0) (u .read .1) in
       let plain = every-of nameByte n (passes-shown nameByte text name (h .0)) in
-      let w = line-ahead text at name r sh in (
+      let twice : (out : List ℕ) → OnLine out 0 (restLine n (shown text r)) → Twice text at out n (shown text r) = λ out w′. record { plain = plain; not-map = not-map; stood = line-ahead text at name r sh; written = w′ } in (
         some-shown nameByte text name (h .0),
         (
           passes-shown nameByte text name (h .0),
@@ -289,8 +260,8 @@ module _ (text : List ℕ) (at : ℕ) (name : Span) (not-map : sameBytes (shown 
             (some-shown lineByte text r (h .1), passes-shown lineByte text r (h .1)),
             λ xs.
                 let w′ : OnLine (lineBytes (unknownLine n (some (shown text r))) ++ xs) 0 (bytes "#EXT-" ++ (n ++ (bytes ":" ++ shown text r))) = record { rest = 10 ∷ xs; ahead = simp append-assoc; ends = refl } in (
-                  head-whole text at _ n (shown text r) plain not-map w w′ (u .no-head),
-                  clip-whole text at _ n (shown text r) plain not-map w w′ (u .no-clip),
+                  head-whole text at _ n (shown text r) (twice _ w′) (u .no-head),
+                  clip-whole text at _ n (shown text r) (twice _ w′) (u .no-clip),
                 ),
           ),
         ),

@@ -18,7 +18,7 @@ use Rattle.text.proofs.Ahead.{Every}
 use Rattle.text.proofs.Laws.{and-left, and-right}
 use Rattle.text.proofs.Local.{Local, still, mvMany, in-moves, when-moves, bind-moves, alt-moves, many0-moves}
 use Rattle.text.proofs.Many.{many-stop, stop-step}
-use Rattle.text.proofs.Chars.{ascii, end-out}
+use Rattle.blocks.proofs.Chars.{ascii, end-out}
 use Rattle.text.proofs.Takes.{fail-not-ok, when-ok, bind-ok, takes-utf8-char, takes-falls}
 use Rattle.roundtrip.proofs.Edges.{Edge, start, before, behind, Ascii, plain}
 use Rattle.roundtrip.proofs.Gives.{Gives, gives-alt, gives-bind}

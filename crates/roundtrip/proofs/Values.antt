@@ -9,20 +9,21 @@ use native.Mathlib.Omega.{arith}
 use lib.ListN.{length, take, drop, length-drop, take-append-drop}
 use lib.Seq.{length-take-le}
 use Rattle.text.specs.Why.{typeEmpty, nameEmpty, missingByte, noUri, uriNotQuoted, rangeNotQuoted, rangeBad, loneCr}
-use Rattle.text.specs.Nom.{Res, fail, ok, Span, span, bytes, isOneOf, isNoneOf, tagged, runEnd, afterTag, spanOr, bind, orElse, orNone, tag, peekNoneOf, takeUntil}
+use Rattle.text.specs.Nom.{Res, fail, ok, Span, span, bytes, isNoneOf, tagged, runEnd, afterTag, spanOr, bind, orElse, orNone, tag, peekNoneOf, takeUntil, isSpace}
 use Rattle.text.specs.Many.{many0, items, stop}
 use Rattle.text.specs.Util.{spells, ByteRange, byteRangeVal, consumeLine}
 use Rattle.text.specs.BasicTags.{ExtTag, ext, extTag, commentTag, PlaylistType, event, vod, other, fromStr, playlistType}
 use Rattle.text.proofs.Ahead.{spells-ahead}
 use Rattle.text.proofs.Takes.{fail-not-ok}
-use Rattle.attributes.specs.Pairs.{QuotedOrUnquoted, bare, inQuotes, Pair, pair, quoted, unquoted, keyValuePair, nextPair, inserted, get, lastTwoOf}
+use Rattle.attributes.specs.Pairs.{QuotedOrUnquoted, bare, inQuotes, Pair, pair, quoted, unquoted, keyValuePair, nextPair, inserted, get}
 use Rattle.attributes.specs.ExtMap.{Map, extMap, uriOf, begun, rangeOf, extmap}
 use Rattle.attributes.proofs.Source.{takes-extmap}
-use Rattle.attributes.proofs.Walk.{map-by-two}
+use Rattle.attributes.proofs.Walk.{map-by-attrs}
 use Rattle.lengths.specs.Duration.{counted, digits, Length, ns, tooManyDigits, lengthOf, float, Extinf, extinf, durationTitleTag}
 use Rattle.lengths.proofs.Sides.{float-below}
 use Rattle.tables.specs.Layout.{lengthLimit}
-use Rattle.records.specs.Same.{shown, otherShown, sameBytes}
+use Rattle.text.specs.Spans.{shown, sameBytes}
+use Rattle.records.specs.Same.{otherShown}
 use Rattle.records.proofs.Back.{All}
 use Rattle.roundtrip.proofs.Said.{RangeFits, NumbersFit, typeSays}
 use Rattle.roundtrip.proofs.Words.{spells-own}
@@ -160,7 +161,7 @@ module _ (text : List ℕ) where
 
   gives-next-pair : (at : ℕ) → Gives (Cut text SoundPair) (nextPair text at)
   unfolding nextPair
-  gives-next-pair at = gives-pair (runEnd (isOneOf (bytes " \t")) text at)
+  gives-next-pair at = gives-pair (runEnd isSpace text at)
 
   -- what a list has under a name is a pair's value
   inserted-sound : (name : List ℕ) (ps : List Pair) (held : Option QuotedOrUnquoted) → If SoundValue held → All SoundPair ps → If SoundValue (inserted text name held ps)
@@ -202,7 +203,7 @@ module _ (text : List ℕ) where
       let Q : Map → ℕ → Type 0 = λ x n. (ListFits (span at n) → SoundMap x) × Edge text n in
       let each = many-gives SoundPair (Edge text) nextPair text (λ n _. gives-next-pair n) at from in
       let sound : (name : List ℕ) → If SoundValue (get text name (items m)) = λ name. inserted-sound name (items m) none tt (each .0) in
-      rw (map-by-two text at (lastTwoOf text (bytes "URI") (bytes "BYTERANGE") m) refl)
+      rw (map-by-attrs text at (get text (bytes "URI") (items m)) (get text (bytes "BYTERANGE") (items m)) (stop m) refl refl refl)
       (gives-bind (λ u n. Shows (isNoneOf (bytes "\"")) text u × (n ≡ stop m)) Q _ _ (gives-uri-of (get text (bytes "URI") (items m)) (stop m) (sound (bytes "URI"))) (λ u n h. rw (h .1) (
       gives-bind (λ r n. RangeFits r × (n ≡ stop m)) Q _ _ (gives-range-of (get text (bytes "BYTERANGE") (items m)) (stop m) (sound (bytes "BYTERANGE"))) (λ r n k. rw (k .1) (
       gives-done Q (extMap u r (span at (stop m))) (stop m) (λ l. (h .0, k .0, l), each .1))))))

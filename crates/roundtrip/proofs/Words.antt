@@ -8,7 +8,7 @@ use lib.Dec.{eqb, eqb·zero-suc, eqb·suc-suc}
 use lib.ListN.{length}
 use Rattle.text.specs.Nom.{span, tagged, begins}
 use Rattle.text.specs.Util.{spells}
-use Rattle.records.specs.Same.{sameAll, sameBytes}
+use Rattle.text.specs.Spans.{sameAll, sameBytes}
 
 begins-same : (word b : List ℕ) → (begins word b && eqb (length word) (length b)) ≡ sameBytes b word
 unfolding begins sameAll

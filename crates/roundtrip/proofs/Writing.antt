@@ -9,9 +9,9 @@ use lib.ListN.{length}
 use Rattle.text.specs.Nom.{Span, span, bytes, isNoneOf}
 use Rattle.text.specs.BasicTags.{ExtTag, ext}
 use Rattle.tables.specs.Refusal.{given}
-use Rattle.media.specs.Assembly.{Head, segment, Clip, clip, begin, lastOf, clipCount, keptTags}
+use Rattle.assembly.specs.Assembly.{Head, segment, Clip, clip, begin, lastOf, clipCount, keptTags}
 use Rattle.media.specs.Calls.{stepsOf, read, parseMediaPlaylist, clipsRead, tagsRead}
-use Rattle.media.proofs.Counts.{count-clips}
+use Rattle.assembly.proofs.Counts.{count-clips}
 use Rattle.records.proofs.Back.{All, RealPart, RealClip, RealTag, clips-back, tags-back}
 use Rattle.playlist.specs.Calls.{writtenText}
 use Rattle.roundtrip.specs.RoundTrip.{Writes}

@@ -5,7 +5,7 @@ use mathlib.Core.List.{List, [], _∷_, _++_, map as mapList, append-assoc, appe
 use native.Mathlib.Omega.{arith}
 use lib.ListN.{length, drop}
 use Rattle.text.specs.Why.{missingByte}
-use Rattle.text.specs.Nom.{fail, bytes}
+use Rattle.text.specs.Nom.{fail, bytes, isMultispace}
 use Rattle.text.specs.Lines.{unlines, AllFit}
 use Rattle.text.proofs.Ahead.{Every, Stops, out-ahead, run-ahead}
 use Rattle.text.proofs.Lines.{AllRead, run-all}
@@ -14,11 +14,10 @@ use Rattle.tags.proofs.Takes.{falls-step}
 use Rattle.media.specs.Calls.{firstStep, stepsOf, stopOf}
 use Rattle.playlist.specs.Lines.{Line, headerLine, independentSegmentsLine, iFramesOnlyLine, discontinuityLine, endListLine, versionLine, targetDurationLine, mediaSequenceLine, discontinuitySequenceLine, playlistTypeLine, mapLine, byteRangeLine, unknownLine, extinfLine, uriLine, lineBytes}
 use Rattle.roundtrip.proofs.Said.{takenSays, lineSays, Clean, Fits}
-use Rattle.roundtrip.proofs.Steps.{isBlank}
 use Rattle.roundtrip.proofs.ReadLines.{reads}
 
 -- no line begins with a blank: it begins with `#`, or is a URI that does not
-pub no-blank : (l : Line) (xs : List ℕ) → Clean l → Stops isBlank (lineBytes l ++ xs)
+pub no-blank : (l : Line) (xs : List ℕ) → Clean l → Stops isMultispace (lineBytes l ++ xs)
 no-blank headerLine xs c = refl
 no-blank (versionLine n) xs c = refl
 no-blank independentSegmentsLine xs c = refl
@@ -37,8 +36,8 @@ no-blank (uriLine (x ∷ u)) xs c = c .1 .1 .0
 no-blank endListLine xs c = refl
 
 -- nor do clean lines, if what follows them does not
-pub none-blank : (F : Line → List ℕ → Type 0) → ((l : Line) (xs : List ℕ) → F l xs → Clean l) → (ls : List Line) (xs : List ℕ) → Stops isBlank xs → AllFit lineBytes F ls xs
-    → Stops isBlank (unlines lineBytes ls ++ xs)
+pub none-blank : (F : Line → List ℕ → Type 0) → ((l : Line) (xs : List ℕ) → F l xs → Clean l) → (ls : List Line) (xs : List ℕ) → Stops isMultispace xs → AllFit lineBytes F ls xs
+    → Stops isMultispace (unlines lineBytes ls ++ xs)
 unfolding unlines AllFit
 none-blank F clean [] xs s f = s
 none-blank F clean (l ∷ ls) xs s f = rw (append-assoc (lineBytes l) (unlines lineBytes ls) xs) (no-blank l (unlines lineBytes ls ++ xs) (clean l _ (f .0)))
@@ -53,8 +52,8 @@ module _ (w : List ℕ) (ls : List Line) (e : w ≡ lineBytes headerLine ++ unli
   pub first-step : firstStep w ≡ 8
   unfolding firstStep Every
   first-step =
-      let s : Stops isBlank (unlines lineBytes ls) = rw append-nil at (none-blank Fits (λ l xs f. f .0) ls [] tt fit) in
-      rw e (run-ahead (lineBytes headerLine ++ unlines lineBytes ls) 7 isBlank (bytes "\n") (unlines lineBytes ls) (refl, tt) s refl)
+      let s : Stops isMultispace (unlines lineBytes ls) = rw append-nil at (none-blank Fits (λ l xs f. f .0) ls [] tt fit) in
+      rw e (run-ahead (lineBytes headerLine ++ unlines lineBytes ls) 7 isMultispace (bytes "\n") (unlines lineBytes ls) (refl, tt) s refl)
 
   all-read : AllRead step w lineBytes (takenSays w) lineSays ls 8
   all-read = run-all step w lineBytes (takenSays w) lineSays (falls-step w) Fits (reads w) ls 8 missingByte fit (ap (drop 8) e) (step-ends w)

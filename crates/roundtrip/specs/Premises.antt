@@ -4,8 +4,8 @@ use mathlib.Core.Bool.{Bool, true, not, _&&_}
 use mathlib.Core.List.{List, [], _∷_}
 use Rattle.text.specs.Nom.{bytes, begins}
 use Rattle.text.specs.BasicTags.{ExtTag, ext}
-use Rattle.media.specs.Assembly.{Clip, clip}
-use Rattle.records.specs.Same.{shown, sameBytes}
+use Rattle.assembly.specs.Assembly.{Clip, clip}
+use Rattle.text.specs.Spans.{shown, sameBytes}
 
 unfoldable pub all : {A : Type 0} → (A → Bool) → List A → Bool
 all p [] = true

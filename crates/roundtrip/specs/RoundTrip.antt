@@ -5,10 +5,10 @@ use mathlib.Core.Bool.{true}
 use mathlib.Core.List.{List, _++_}
 use lib.ListN.{length, drop}
 use Rattle.tables.specs.Refusal.{given}
-use Rattle.media.specs.Assembly.{Head}
-use Rattle.media.specs.Words.{clipsWords, tagsWords}
+use Rattle.assembly.specs.Assembly.{Head}
+use Rattle.assembly.specs.Words.{clipsWords, tagsWords}
 use Rattle.media.specs.Calls.{read, parseMediaPlaylist, clipsRead, tagsRead}
-use Rattle.records.specs.Rule9.{keepsRule}
+use Rattle.rule9.specs.Rule9.{keepsRule}
 use Rattle.records.specs.Same.{shownList, sameList}
 use Rattle.playlist.specs.Lines.{playlistText}
 use Rattle.playlist.specs.Calls.{writtenText}

@@ -5,7 +5,7 @@ use mathlib.Core.List.{[], _∷_, map}
 use Prim.Native.Nat.{ℕ, _-_, _^_}
 use lib.ListN.{replicate}
 use Rattle.tables.specs.Layout as layout
-use Rattle.tables.specs.Refusal.{given, noSuchClip, number, orRefuse}
+use Rattle.tables.specs.Refusal.{given, noSuchClip, answerNumber, orRefuse}
 use Rattle.tables.specs.Table.{clipsFit, tagsFit, fits, tagWord, stored, tagStored, hasFlag}
 
 -- one record's words hold one record, none hold none, and a count of 2^64 - 1 is no more than any other
@@ -32,5 +32,5 @@ unfolding hasFlag
 flags = refl
 
 -- the number of a refusal and of an accepted answer
-numbers : map (λ passes. number {A = ℕ} (orRefuse passes noSuchClip 0 (given 7))) (false ∷ true ∷ []) ≡ 14 ∷ 0 ∷ []
+numbers : map (λ passes. answerNumber {A = ℕ} (orRefuse passes noSuchClip 0 (given 7))) (false ∷ true ∷ []) ≡ 14 ∷ 0 ∷ []
 numbers = refl

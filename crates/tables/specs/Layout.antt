@@ -110,3 +110,7 @@ flagLimit = 64
 -- ---- word 2 below 10^18
 abbrev pub lengthLimit : ℕ
 lengthLimit = 10 ^ 18
+
+-- "ns is the digits times 10^9": ns in a second
+abbrev pub second : ℕ
+second = 10 ^ 9

@@ -59,13 +59,13 @@ pub data Answer (A : Type 0) : Type 0 where
   given : A → Answer A
 
 -- its number and its place: accepted answers have number 0 and place 0
-abbrev pub number : {A : Type 0} → Answer A → ℕ
-number (refused r p) = numberOf r
-number (given a) = 0
+abbrev pub answerNumber : {A : Type 0} → Answer A → ℕ
+answerNumber (refused r p) = numberOf r
+answerNumber (given a) = 0
 
-abbrev pub place : {A : Type 0} → Answer A → ℕ
-place (refused r p) = p
-place (given a) = 0
+abbrev pub answerPlace : {A : Type 0} → Answer A → ℕ
+answerPlace (refused r p) = p
+answerPlace (given a) = 0
 
 -- the answer where the test passes; else the refusal, at its place. A chain of these is weighed from the top down.
 abbrev pub orRefuse : {A : Type 0} → Bool → Refusal → ℕ → Answer A → Answer A

@@ -65,3 +65,6 @@ pub const FLAG_LIMIT: u64 = 64;
 
 // A length in ns is below this: nine digits before the point and nine after it.
 pub const LENGTH_LIMIT: u64 = 1_000_000_000_000_000_000;
+
+// Ns in a second.
+pub const SECOND: u64 = 1_000_000_000;

@@ -1,21 +1,30 @@
 -- Where a line does not begin with `#`, none but the URI can hold; one that begins with `#EXTINF:` is taken as an EXTINF, if it reads. Assumes nothing.
 use Prim.Native.Nat.{ℕ, _+_, _<_}
-use mathlib.Core.Path.{_≡_, refl, sym, _∙_}
-use mathlib.Core.Bool.{Bool, true, false, false≢true}
+use mathlib.Core.Path.{_≡_, refl, sym, _∙_, ap}
+use mathlib.Core.Bool.{true}
 use mathlib.Core.List.{List, []}
+use mathlib.Core.Option.{some}
 use native.Mathlib.Nat.{add-zero}
 use native.Mathlib.Omega.{arith}
-use lib.Dec.{eqb}
 use lib.ListN.{length, getD}
-use borrow.Author.Tests.{lt-ltb, ne-eqb, eqb-true, eqb-false}
+use borrow.Author.Tests.{lt-ltb}
 use Rattle.text.specs.Why.{otherText}
-use Rattle.text.specs.Nom.{fail, ok, bytes, tagged, orElse}
+use Rattle.text.specs.Nom.{fail, ok, bytes, isOneOf, tagged, orElse}
 use Rattle.text.specs.BasicTags.{extTag, commentTag}
-use Rattle.text.proofs.Laws.{tagged-not, tagged-other, tagged-within}
+use Rattle.text.proofs.Laws.{tagged-not, tagged-within}
 use Rattle.text.proofs.Chain.{alt-skip, alt-here}
 use Rattle.lengths.specs.Duration.{Extinf, durationTitleTag}
-use Rattle.tags.specs.Tags.{timed, ofClip, extinfLine, unknownTag, commentLine, uriLine, playlistTag, segmentTag, otherTag, mediaSegmentTag, mediaPlaylistTag}
-use Rattle.tags.proofs.Letters.{by-byte, playlist-named, segment-named, playlist-lettered}
+use Rattle.tags.specs.Tags.{ClipTag, timed, ranged, discontinuity, mapped, timedOf, ofClip, Row, matched, reads, unknownTag, commentLine, uriLine, playlistRows, playlistTag, segmentRows, segmentTag, otherTag, mediaSegmentTag, mediaPlaylistTag, literal, extinfRow}
+use Rattle.tags.proofs.Rows.{holdAll}
+use Rattle.tags.proofs.Matched.{others, playlist-matched, segment-matched}
+use Rattle.tags.proofs.Letters.{byteAt, long, no-byte}
+
+-- the one tag of a clip that tells an EXTINF
+pub timed-back : (t : ClipTag) (e : Extinf) → timedOf t ≡ some e → t ≡ timed e
+timed-back (timed e) x q = cc
+timed-back (ranged r) x q = cc
+timed-back discontinuity x q = cc
+timed-back (mapped m) x q = cc
 
 module _ (text : List ℕ) (at : ℕ) where
   -- a byte is there: the tags of the head are tried first
@@ -25,13 +34,14 @@ module _ (text : List ℕ) (at : ℕ) where
 
   -- a line that does not begin with `#`
   module _ (not-so : getD text at 0 ≡ 35 → ⊥) where
+    none-matched : (rs : List Row) → holdAll long rs ≡ true → holdAll (λ r. isOneOf (bytes "#") (byteAt 0 r)) rs ≡ true → matched rs text at ≡ fail otherText
+    none-matched = no-byte text at 0 (omega arith) (ap (λ (n : ℕ). getD text n 0) (sym (add-zero at))) (bytes "#") (tt, not-so)
+
     playlist-none : fail otherText ≡ playlistTag text at
-    unfolding playlistTag
-    playlist-none = rw (add-zero at, ne-eqb _ 35 not-so) at (by-byte text at 0 (omega arith) playlist-named)
+    playlist-none = rw (none-matched playlistRows refl refl) at (playlist-matched text at)
 
     segment-none : fail otherText ≡ segmentTag text at
-    unfolding segmentTag
-    segment-none = rw (add-zero at, ne-eqb _ 35 not-so) at (by-byte text at 0 (omega arith) segment-named)
+    segment-none = rw (none-matched segmentRows refl refl) at (segment-matched text at)
 
     unknown-none : unknownTag text at ≡ fail otherText
     unfolding extTag
@@ -54,23 +64,16 @@ module _ (text : List ℕ) (at : ℕ) where
     not-hash h = sym (alt-skip _ _ _ otherText (sym playlist-none) segment-uri ∙ head-first h)
 
   -- a line that begins with `#EXTINF:`
-  module _ (there : tagged (bytes "#EXTINF:") text at ≡ true) where
-    -- has a colon where the tags of the head have letters
-    colon : getD text (at + 7) 0 ≡ 58
-    colon = go (eqb (getD text (at + 7) 0) 58) refl
-      where
-        go : (b : Bool) → eqb (getD text (at + 7) 0) 58 ≡ b → getD text (at + 7) 0 ≡ 58
-        go true q = eqb-true (getD text (at + 7) 0) 58 q
-        go false q = absurd (false≢true (sym (tagged-other (bytes "#EXTINF:") text at 7 (omega arith) (eqb-false (getD text (at + 7) 0) 58 q)) ∙ there))
-
+  module _ (there : tagged (literal extinfRow) text at ≡ true) where
+    -- is no tag of the head
     no-head : fail otherText ≡ playlistTag text at
-    no-head = playlist-lettered text at 58 refl colon
+    no-head = rw (others text at (literal extinfRow) there playlistRows refl) at (playlist-matched text at)
 
     -- and is taken as an EXTINF, if it reads
-    module _ (e : Extinf) (n : ℕ) (r : durationTitleTag text (at + length (bytes "#EXTINF:")) ≡ ok e n) where
+    module _ (e : Extinf) (n : ℕ) (r : durationTitleTag text (at + length (literal extinfRow)) ≡ ok e n) where
       clip-extinf : ok (ofClip (timed e)) n ≡ segmentTag text at
       unfolding segmentTag
-      clip-extinf = alt-here (extinfLine text at) _ (ofClip (timed e)) n (rw (there, r))
+      clip-extinf = alt-here (reads extinfRow text at) _ (ofClip (timed e)) n (rw (there, r))
 
       segment-extinf : ok (ofClip (timed e)) n ≡ mediaSegmentTag text at
       unfolding mediaSegmentTag

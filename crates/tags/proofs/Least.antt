@@ -5,7 +5,7 @@ use mathlib.Core.Path.{_≡_, ap, _∙_}
 use mathlib.Core.List.{List}
 use native.Mathlib.Omega.{arith}
 use lib.ListN.{length}
-use Rattle.text.specs.Nom.{ok, Span, bytes, isOneOf, runEnd}
+use Rattle.text.specs.Nom.{ok, Span, runEnd, isMultispace}
 use Rattle.text.specs.Util.{consumeLine}
 use Rattle.text.specs.BasicTags.{ExtTag}
 use Rattle.text.proofs.Laws.{run-from}
@@ -17,7 +17,7 @@ use Rattle.tags.proofs.Numbered.{numbered}
 
 module _ (text : List ℕ) (at n from : ℕ) where
   -- a step that was taken: its tag, and the blanks behind it
-  step-parts : (t : Tag) → step text at ≡ ok (took from t) n → (end : ℕ) × (mediaPlaylistTag text at ≡ ok t end) × (runEnd (isOneOf (bytes " \t\r\n")) text end ≡ n)
+  step-parts : (t : Tag) → step text at ≡ ok (took from t) n → (end : ℕ) × (mediaPlaylistTag text at ≡ ok t end) × (runEnd isMultispace text end ≡ n)
   unfolding step
   step-parts t e =
       let f = bind-ok (mediaPlaylistTag text at) _ (took from t) n e in
@@ -32,7 +32,7 @@ module _ (text : List ℕ) (at n from : ℕ) where
       let f = step-parts (uri u) e in
       let g = bind-ok (consumeLine text at) _ (uri u) (f .0) (numbered text at (f .0) (uri u) (f .1) .holds) in
       let end : g .1 ≡ f .0 = cc (g .3) in
-      let past : f .0 ≤ n = omega (arith, f .2, run-from (isOneOf (bytes " \t\r\n")) text (f .0)) in
+      let past : f .0 ≤ n = omega (arith, f .2, run-from isMultispace text (f .0)) in
       let there : at < length text = omega (arith, takes-media-playlist-tag text at (f .0) (uri u) (f .1) .0) in
       omega (arith, line-takes-two text at first there (g .1) (g .0) (g .2) (omega arith))
 
@@ -40,4 +40,4 @@ module _ (text : List ℕ) (at n from : ℕ) where
   unknown-takes-seven t e =
       let f = step-parts (unknown t) e in
       let w = takes-unknown text at (f .0) (unknown t) (numbered text at (f .0) (unknown t) (f .1) .holds) in
-      omega (arith, w .0, f .2, run-from (isOneOf (bytes " \t\r\n")) text (f .0))
+      omega (arith, w .0, f .2, run-from isMultispace text (f .0))

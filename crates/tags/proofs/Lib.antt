@@ -1,5 +1,11 @@
 -- alternatives as the code tries them
 pub mod Tried
+-- how tags move by k places
+pub mod Moves
+-- what each known tag brings to the laws of all
+pub mod Rows
+-- the first row whose text is there is the first that holds
+pub mod Matched
 -- which tags can hold at all, by one byte of theirs
 pub mod Letters
 -- how a line begins: where none but the URI can hold, and where the EXTINF does
@@ -10,8 +16,6 @@ pub mod Takes
 pub mod Numbered
 -- the fewest bytes of a URI and of an unknown tag
 pub mod Least
--- which lines are taken at once, by how they begin
-pub mod MostLines
 -- a step with more text before it
 pub mod Local
 -- no second answer fits a contract

@@ -3,7 +3,7 @@
 use Prim.Native.Nat.{ℕ, zero, suc, _+_, _<_}
 use mathlib.Core.Path.{_≡_, refl, sym, ap, _∙_}
 use mathlib.Core.Bool.{Bool, true, false}
-use mathlib.Core.List.{List, [], _∷_, _++_}
+use mathlib.Core.List.{List, [], _∷_, _++_, map as mapᴸ}
 use native.Mathlib.Nat.{add-zero}
 use native.Mathlib.Omega.{arith}
 use lib.Dec.{ltb}
@@ -14,9 +14,10 @@ use Rattle.text.specs.Util.{consumeLine}
 use Rattle.text.specs.BasicTags.{extTag, commentTag}
 use Rattle.text.proofs.Takes.{bind-ok}
 use Rattle.text.proofs.Chain.{or-assoc}
-use Rattle.tags.specs.Tags.{version, targetDuration, mediaSequence, discontinuitySequence, typed, iFramesOnly, independentSegments, endList, timed, ranged, discontinuity, mapped, start, key, programDateTime, dateRange, Tag, ofHead, ofClip, unknown, comment, uri, leftOut, marks, firstOf, playlistTags, playlistTag, segmentTags, segmentTag, otherTags, otherTag, mediaSegmentTag, mediaPlaylistTag, knownTags, alternatives, alternativeOf}
+use Rattle.tags.specs.Tags.{version, targetDuration, mediaSequence, discontinuitySequence, typed, iFramesOnly, independentSegments, endList, timed, ranged, discontinuity, mapped, start, key, programDateTime, dateRange, Tag, ofHead, ofClip, unknown, comment, uri, leftOut, Row, row, mark, reads, firstOf, playlistRows, segmentRows, clipsFrom, playlistTag, segmentTag, otherTags, otherTag, mediaSegmentTag, mediaPlaylistTag, knownRows, alternatives, alternativeOf}
 use Rattle.tags.proofs.Begins.{head-first}
 use Rattle.tags.proofs.Takes.{takes-media-playlist-tag}
+use Rattle.tags.proofs.Rows.{Each, last, _⊳_, Facts, head-facts, clip-facts}
 
 -- ---- the step's rule is the first alternative that holds
 module _ (text : List ℕ) (at : ℕ) where
@@ -33,8 +34,8 @@ module _ (text : List ℕ) (at : ℕ) where
   first-holds h =
       sym (head-first text at h)
       ∙ or-assoc (playlistTag text at) (segmentTag text at) (otherTag text at)
-      ∙ ap (λ (r : Res Tag). orElse r (otherTag text at)) (first-append playlistTags segmentTags (omega arith) (omega arith))
-      ∙ first-append knownTags otherTags (omega arith) (omega arith)
+      ∙ ap (λ (r : Res Tag). orElse r (otherTag text at)) (first-append (mapᴸ reads playlistRows) (mapᴸ reads segmentRows) (omega arith) (omega arith))
+      ∙ first-append (mapᴸ reads knownRows) otherTags (omega arith) (omega arith)
 
 -- ---- each alternative gives only tags of its number
 abbrev Gives : ℕ → Parser Tag → Type 0
@@ -46,39 +47,28 @@ made-gives k f same p text at n t e =
     let z : f (b .0) ≡ t = cc (b .3) in
     rw (← z) (same (b .0))
 
-after-gives : {A : Type 0} (k : ℕ) (f : A → Tag) → ((a : A) → alternativeOf (f a) ≡ k) → (fixed : List ℕ) (p : Parser A) → Gives k (map f (preceded (tag fixed) p))
-after-gives k f same fixed p = made-gives k f same (preceded (tag fixed) p)
-
-mark-gives : (x : Tag) (fixed : List ℕ) → Gives (alternativeOf x) (marks x (tag fixed))
-mark-gives x fixed = made-gives (alternativeOf x) (λ _. x) (λ _. refl) (tag fixed)
+row-gives : (k : ℕ) (r : Row) → Facts k r → Gives k (reads r)
+row-gives k (row t p f) h = made-gives k f (h .numbered) (preceded (tag t) p)
+row-gives k (mark t x) h = made-gives k (λ _. x) (λ _. h .numbered) (tag t)
 
 -- those of a list, from number k on
 data Numbers : ℕ → List (Parser Tag) → Type 0 where
   none : {k : ℕ} → Numbers k []
   each : {k : ℕ} {p : Parser Tag} {ps : List (Parser Tag)} → Gives k p → Numbers (suc k) ps → Numbers k (p ∷ ps)
 
+-- rows, and what stands behind them
+numbers-on : (k m : ℕ) (rs : List Row) (ps : List (Parser Tag)) → m ≡ k + length rs → Each Facts k rs → Numbers m ps → Numbers k (mapᴸ reads rs ++ ps)
+numbers-on k m [] ps e last ns = rw (← (e ∙ add-zero k)) ns
+numbers-on k m (r ∷ rs) ps e (h ⊳ hs) ns = each (row-gives k r h) (numbers-on (suc k) m rs ps (omega arith) hs ns)
+
 number-each : Numbers 0 alternatives
 number-each =
-    each (after-gives 0 (λ x. ofHead (version x)) (λ _. refl) _ _)
-    (each (after-gives 1 (λ x. ofHead (targetDuration x)) (λ _. refl) _ _)
-    (each (after-gives 2 (λ x. ofHead (mediaSequence x)) (λ _. refl) _ _)
-    (each (after-gives 3 (λ x. ofHead (discontinuitySequence x)) (λ _. refl) _ _)
-    (each (after-gives 4 (λ x. ofHead (typed x)) (λ _. refl) _ _)
-    (each (mark-gives (ofHead iFramesOnly) _)
-    (each (mark-gives (leftOut start) _)
-    (each (mark-gives (ofHead independentSegments) _)
-    (each (mark-gives (ofHead endList) _)
-    (each (after-gives 9 (λ x. ofClip (timed x)) (λ _. refl) _ _)
-    (each (after-gives 10 (λ x. ofClip (ranged x)) (λ _. refl) _ _)
-    (each (mark-gives (ofClip discontinuity) _)
-    (each (mark-gives (leftOut key) _)
-    (each (after-gives 13 (λ x. ofClip (mapped x)) (λ _. refl) _ _)
-    (each (mark-gives (leftOut programDateTime) _)
-    (each (mark-gives (leftOut dateRange) _)
-    (each (made-gives 16 unknown (λ _. refl) extTag)
-    (each (made-gives 17 comment (λ _. refl) commentTag)
-    (each (made-gives 18 uri (λ _. refl) consumeLine)
-    none))))))))))))))))))
+    numbers-on 0 clipsFrom playlistRows _ refl head-facts
+    (numbers-on clipsFrom (length knownRows) segmentRows _ refl clip-facts
+    (each (made-gives _ unknown (λ _. refl) extTag)
+    (each (made-gives _ comment (λ _. refl) commentTag)
+    (each (made-gives _ uri (λ _. refl) consumeLine)
+    none))))
 
 -- ---- what was taken tells which alternative took it
 -- the alternative of a number; past the last, none holds
@@ -121,7 +111,7 @@ module _ (text : List ℕ) (at n : ℕ) (t : Tag) where
       let same : z .0 ≡ alternativeOf t = omega (arith, z .1) in
       rw same at (z .2)
 
--- ---- the first group, numbers below 16, is the known tags
+-- ---- the first group is the known tags
 abbrev pub known : Tag → Bool
 known (ofHead t) = true
 known (ofClip t) = true
@@ -130,7 +120,7 @@ known (comment c) = false
 known (uri u) = false
 known (leftOut t) = true
 
-pub known-first : (t : Tag) → ltb (alternativeOf t) (length knownTags) ≡ known t
+pub known-first : (t : Tag) → ltb (alternativeOf t) (length knownRows) ≡ known t
 known-first (ofHead (version v)) = refl
 known-first (ofHead (targetDuration d)) = refl
 known-first (ofHead (mediaSequence n)) = refl

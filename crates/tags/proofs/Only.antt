@@ -1,10 +1,9 @@
 -- No second answer meets a contract: from what an answer says there is a way back to it, as in text's `Only`. Assumes nothing.
-use Prim.Native.Nat.{ℕ}
 use mathlib.Core.Path.{_≡_, refl, ap}
 use Rattle.text.specs.Nom.{Res, fail, ok}
-use Rattle.text.proofs.Only.{Only, only-by, whyBack, why-back, spanBack, partBack, part-back, byteRangeBack, byte-range-back, extTagBack, ext-tag-back, typeBack, type-back}
+use Rattle.text.proofs.Only.{Only, only-by, whyBack, why-back, spanBack, partBack, part-back}
+use Rattle.leaves.proofs.Only.{byteRangeBack, byte-range-back, extTagBack, ext-tag-back, typeBack, type-back}
 use Rattle.attributes.proofs.Only.{mapBack, map-back}
-use Rattle.lengths.specs.declared.duration.Extinf as extinfᵈ
 use Rattle.lengths.proofs.Only.{extinfBack, extinf-back}
 use Rattle.tags.specs.declared.HeadTag as headᵈ
 use Rattle.tags.specs.declared.HeadTag.the-variants as headᵛ
@@ -16,17 +15,8 @@ use Rattle.tags.specs.declared.Tag as tagᵈ
 use Rattle.tags.specs.declared.Tag.the-variants as tagᵛ
 use Rattle.tags.specs.declared.TagRes.{TagRes}
 use Rattle.tags.specs.declared.TagRes.the-variants as tagResᵛ
-use Rattle.tags.specs.declared.heads.NumberRes.{NumberRes}
-use Rattle.tags.specs.declared.heads.NumberRes.the-variants as numberᵛ
-use Rattle.tags.specs.declared.common.Kind as kindᵈ
-use Rattle.tags.specs.declared.common.Kind.the-variants as kindᵛ
-use Rattle.tags.specs.declared.common.Line.{Line}
-use Rattle.tags.specs.declared.common.Line.the-variants as lineᵛ
-use Rattle.tags.specs.declared.common.LineEnd.{LineEnd}
-use Rattle.tags.specs.declared.common.LineEnd.the-variants as endᵛ
 use Rattle.tags.specs.Tags.{HeadTag, version, targetDuration, mediaSequence, discontinuitySequence, typed, iFramesOnly, independentSegments, endList, ClipTag, timed, ranged, discontinuity, mapped, LeftOut, start, key, programDateTime, dateRange, Tag, ofHead, ofClip, unknown, comment, uri, leftOut}
-use Rattle.tags.specs.Common.{Kind, uriKind, extinfKind, otherKind, Common, takesUri, takesExtinf, takesOther, CommonEnd, endsUri, endsExtinf, endsOther}
-use Rattle.tags.specs.Answers.{headTagOf, clipTagOf, leftOutOf, tagOf, tagRes, numberRes, kindOf, commonOf, commonEndOf}
+use Rattle.tags.specs.Answers.{headTagOf, clipTagOf, leftOutOf, tagOf, tagRes}
 
 abbrev pub headBack : HeadTag → headᵈ.HeadTag
 headBack (version v) = headᵛ.Version v
@@ -107,54 +97,3 @@ tag-res-back (tagResᵛ.Ok t n) = ap (λ (x : tagᵈ.Tag). tagResᵛ.Ok x n) (ta
 
 pub tag-res-only : Only tagRes
 tag-res-only = only-by tagRes tagResBack tag-res-back
-
-abbrev numberResBack : Res ℕ → NumberRes
-numberResBack (fail why) = numberᵛ.Fail (whyBack why)
-numberResBack (ok v n) = numberᵛ.Ok v n
-
-number-res-back : (r : NumberRes) → numberResBack (numberRes r) ≡ r
-number-res-back (numberᵛ.Fail why) = ap numberᵛ.Fail (why-back why)
-number-res-back (numberᵛ.Ok v n) = refl
-
-pub number-res-only : Only numberRes
-number-res-only = only-by numberRes numberResBack number-res-back
-
--- ---- what most lines are
-abbrev kindBack : Kind → kindᵈ.Kind
-kindBack uriKind = kindᵛ.Uri
-kindBack extinfKind = kindᵛ.Extinf
-kindBack otherKind = kindᵛ.Other
-
-kind-back : (k : kindᵈ.Kind) → kindBack (kindOf k) ≡ k
-kind-back kindᵛ.Uri = refl
-kind-back kindᵛ.Extinf = refl
-kind-back kindᵛ.Other = refl
-
-pub kind-only : Only kindOf
-kind-only = only-by kindOf kindBack kind-back
-
-abbrev commonBack : Common → Line
-commonBack (takesUri s n) = lineᵛ.Uri (spanBack s) n
-commonBack (takesExtinf e n) = lineᵛ.Extinf (extinfBack e) n
-commonBack takesOther = lineᵛ.Other
-
-common-back : (l : Line) → commonBack (commonOf l) ≡ l
-common-back (lineᵛ.Uri s n) = refl
-common-back (lineᵛ.Extinf e n) = ap (λ (x : extinfᵈ.Extinf). lineᵛ.Extinf x n) (extinf-back e)
-common-back lineᵛ.Other = refl
-
-pub common-only : Only commonOf
-common-only = only-by commonOf commonBack common-back
-
-abbrev commonEndBack : CommonEnd → LineEnd
-commonEndBack (endsUri n) = endᵛ.Uri n
-commonEndBack (endsExtinf long n) = endᵛ.Extinf long n
-commonEndBack endsOther = endᵛ.Other
-
-common-end-back : (l : LineEnd) → commonEndBack (commonEndOf l) ≡ l
-common-end-back (endᵛ.Uri n) = refl
-common-end-back (endᵛ.Extinf long n) = refl
-common-end-back endᵛ.Other = refl
-
-pub common-end-only : Only commonEndOf
-common-end-only = only-by commonEndOf commonEndBack common-end-back

@@ -1,7 +1,7 @@
 -- What each answer of the code says, in the words of the rules. Assumes nothing.
-use Prim.Native.Nat.{ℕ}
 use Rattle.text.specs.Nom.{Res, fail, ok}
-use Rattle.text.specs.Answers.{whyOf, spanOf, partOf, byteRangeOf, extTagOf, typeOf}
+use Rattle.text.specs.Answers.{whyOf, spanOf, partOf}
+use Rattle.leaves.specs.Answers.{byteRangeOf, extTagOf, typeOf}
 use Rattle.attributes.specs.Answers.{mapOf}
 use Rattle.lengths.specs.Answers.{extinfOf}
 use Rattle.tags.specs.declared.LeftOut as leftᵈ
@@ -10,20 +10,11 @@ use Rattle.tags.specs.declared.Tag as tagᵈ
 use Rattle.tags.specs.declared.Tag.the-variants as tagᵛ
 use Rattle.tags.specs.declared.TagRes.{TagRes}
 use Rattle.tags.specs.declared.TagRes.the-variants as tagResᵛ
-use Rattle.tags.specs.declared.heads.NumberRes.{NumberRes}
-use Rattle.tags.specs.declared.heads.NumberRes.the-variants as numberᵛ
-use Rattle.tags.specs.declared.common.Kind as kindᵈ
-use Rattle.tags.specs.declared.common.Kind.the-variants as kindᵛ
-use Rattle.tags.specs.declared.common.Line.{Line}
-use Rattle.tags.specs.declared.common.Line.the-variants as lineᵛ
-use Rattle.tags.specs.declared.common.LineEnd.{LineEnd}
-use Rattle.tags.specs.declared.common.LineEnd.the-variants as endᵛ
 use Rattle.tags.specs.declared.HeadTag as headᵈ
 use Rattle.tags.specs.declared.HeadTag.the-variants as headᵛ
 use Rattle.tags.specs.declared.ClipTag as clipᵈ
 use Rattle.tags.specs.declared.ClipTag.the-variants as clipᵛ
 use Rattle.tags.specs.Tags.{HeadTag, version, targetDuration, mediaSequence, discontinuitySequence, typed, iFramesOnly, independentSegments, endList, ClipTag, timed, ranged, discontinuity, mapped, LeftOut, start, key, programDateTime, dateRange, Tag, ofHead, ofClip, unknown, comment, uri, leftOut}
-use Rattle.tags.specs.Common.{Kind, uriKind, extinfKind, otherKind, Common, takesUri, takesExtinf, takesOther, CommonEnd, endsUri, endsExtinf, endsOther}
 
 abbrev pub headTagOf : headᵈ.HeadTag → HeadTag
 headTagOf (headᵛ.Version v) = version v
@@ -58,23 +49,3 @@ tagOf (tagᵛ.LeftOut t) = leftOut (leftOutOf t)
 abbrev pub tagRes : TagRes → Res Tag
 tagRes (tagResᵛ.Fail why) = fail (whyOf why)
 tagRes (tagResᵛ.Ok t n) = ok (tagOf t) n
-
-abbrev pub numberRes : NumberRes → Res ℕ
-numberRes (numberᵛ.Fail why) = fail (whyOf why)
-numberRes (numberᵛ.Ok v n) = ok v n
-
--- ---- what most lines are
-abbrev pub kindOf : kindᵈ.Kind → Kind
-kindOf kindᵛ.Uri = uriKind
-kindOf kindᵛ.Extinf = extinfKind
-kindOf kindᵛ.Other = otherKind
-
-abbrev pub commonOf : Line → Common
-commonOf (lineᵛ.Uri s n) = takesUri (spanOf s) n
-commonOf (lineᵛ.Extinf e n) = takesExtinf (extinfOf e) n
-commonOf lineᵛ.Other = takesOther
-
-abbrev pub commonEndOf : LineEnd → CommonEnd
-commonEndOf (endᵛ.Uri n) = endsUri n
-commonEndOf (endᵛ.Extinf long n) = endsExtinf long n
-commonEndOf endᵛ.Other = endsOther

@@ -2,9 +2,9 @@
 use Prim.Native.Nat.{ℕ}
 use Prim.Native.String.{String}
 use mathlib.Core.Path.{_≡_, refl}
-use mathlib.Core.Bool.{true, false}
+use mathlib.Core.List.{List}
 use mathlib.Core.Option.{Option, none, some}
-use Rattle.text.specs.Why.{missingByte, loneCr}
+use Rattle.text.specs.Why.{otherText, noDigits, tooLarge, missingByte, noUri, uriNotQuoted, loneCr}
 use Rattle.text.specs.Many.{many0, manyTurns}
 use Rattle.text.specs.Nom.{Res, fail, ok, span, bytes, isDigit, begins, tagged, afterTag, run, runEnd, decimal}
 use Rattle.text.specs.Util.{consumeLine, parsed, number, numberOrZero, range, byteRangeVal, spells}
@@ -12,11 +12,10 @@ use Rattle.text.specs.BasicTags.{ext, extTag, commentTag, vod, playlistType}
 use Rattle.attributes.specs.Pairs.{quoted, unquoted, keyValuePair, nextPair, keyValuePairs, inserted}
 use Rattle.attributes.specs.ExtMap.{extMap, extmap}
 use Rattle.lengths.specs.Duration.{counted, ns, float, extinf, durationTitleTag}
-use Rattle.tags.specs.Tags.{version, targetDuration, mediaSequence, discontinuitySequence, typed, iFramesOnly, independentSegments, endList, timed, ranged, discontinuity, mapped, key, Tag, ofHead, ofClip, unknown, comment, uri, leftOut, playlistTag, segmentTag, otherTag, mediaSegmentTag, mediaPlaylistTag, alternativeOf, took, step}
-use Rattle.tags.specs.Common.{uriKind, extinfKind, otherKind, kindAt, takesUri, takesExtinf, takesOther, commonIn}
+use Rattle.tags.specs.Tags.{version, targetDuration, mediaSequence, discontinuitySequence, typed, iFramesOnly, independentSegments, endList, timed, ranged, discontinuity, mapped, key, Tag, ofHead, ofClip, unknown, comment, uri, leftOut, Row, matched, matchedRow, playlistRows, playlistTag, segmentRows, segmentTag, otherTag, mediaSegmentTag, mediaPlaylistTag, alternativeOf, took, step}
 
 -- what is taken at a text's start
-unfoldable taken : String → Res Tag
+unfoldable pub taken : String → Res Tag
 unfolding mediaPlaylistTag playlistTag mediaSegmentTag segmentTag otherTag extTag commentTag consumeLine number numberOrZero parsed byteRangeVal playlistType spells durationTitleTag float counted extmap keyValuePairs nextPair keyValuePair quoted unquoted inserted many0 manyTurns isDigit decimal runEnd run afterTag tagged begins
 taken text = mediaPlaylistTag (bytes text) 0
 
@@ -99,15 +98,27 @@ of-number : (numberIn (taken "#EXT-X-START:\n") ≡ some 6) × (numberIn (taken 
 unfolding taken
 of-number = (refl, refl, refl)
 
--- ---- what most lines are
-of-kind : (kindAt (bytes "a") 0 ≡ uriKind) × (kindAt (bytes "#EXTINF:9") 0 ≡ extinfKind) × (kindAt (bytes "#EXTINF") 0 ≡ otherKind) × (kindAt (bytes "") 0 ≡ otherKind)
-unfolding tagged begins
-of-kind = (refl, refl, refl, refl)
+-- ---- the first row whose fixed text stands at a text's start: its number, and what it reads or why it does not
+unfoldable stands : List Row → String → Option ℕ × Res Tag
+unfolding matchedRow matched number parsed byteRangeVal spells extmap keyValuePairs nextPair keyValuePair quoted unquoted inserted many0 manyTurns isDigit decimal runEnd run afterTag tagged begins
+stands rows text = (matchedRow rows (bytes text) 0, matched rows (bytes text) 0)
 
--- as they are taken; but a URI that begins with `#` is other
-of-common : (commonIn false (taken "a\n") ≡ takesUri (span 0 1) 2) × (commonIn true (taken "#EXTINF:9,\n") ≡ takesExtinf (extinf (ns 9000000000) none) 11) × (commonIn true (taken "#a") ≡ takesOther)
-unfolding taken
-of-common = (refl, refl, refl)
+of-target-row : (stands playlistRows "#EXT-X-TARGETDURATION:10.5\n" ≡ (some 1, ok (ofHead (targetDuration 10)) 24)) × (stands playlistRows "#EXT-X-TARGETDURATION:18446744073709551616\n" ≡ (some 1, fail tooLarge))
+unfolding stands
+of-target-row = (refl, refl)
+
+of-range-row : stands segmentRows "#EXT-X-BYTERANGE:@7\n" ≡ (some 1, fail noDigits)
+unfolding stands
+of-range-row = refl
+
+of-map-row : (stands segmentRows "#EXT-X-MAP:BYTERANGE=\"9\"\n" ≡ (some 4, fail noUri)) × (stands segmentRows "#EXT-X-MAP:URI=m\n" ≡ (some 4, fail uriNotQuoted))
+unfolding stands
+of-map-row = (refl, refl)
+
+-- no row's text
+of-no-row : (stands playlistRows "#EXT-X-FOO:a\n" ≡ (none, fail otherText)) × (stands segmentRows "#EXT-X-KEY\n" ≡ (none, fail otherText))
+unfolding stands
+of-no-row = (refl, refl)
 
 -- ---- a step drops the blanks after what it took
 of-step : (step (bytes "a\n \t\r\nb") 0 ≡ ok (took 0 (uri (span 0 1))) 6) × (step (bytes "a\n \t\r\nb") 6 ≡ ok (took 6 (uri (span 6 7))) 7)

@@ -1,24 +1,17 @@
-// What a step of the reading may take (parser.rs, `media_playlist_tag` and `media_segment_tag`): the alternatives, tried in the crate's order.
-// Known tags first, then unknown tags, comments and URIs. A tag that 01 leaves out is taken as such; the reading refuses it.
-// Each function takes any text and any place. Its contract is one equation with a rule of `specs/`.
+// What a step of the reading may take (parser.rs, `media_playlist_tag` and `media_segment_tag`): the rules in `specs/`, a row for each known tag, their laws in
+// `proofs/`, and here the values that the answers of the crates above are made of. A tag that 01 leaves out is a value too; the reading refuses it.
 use attributes::ext_map::Map;
+use leaves::basic_tags::ExtTag;
+use leaves::basic_tags::PlaylistType;
+use leaves::util::ByteRange;
 use lengths::duration::Extinf;
 use text::Part;
 use text::Span;
 use text::Why;
-use text::basic_tags::ExtTag;
-use text::basic_tags::PlaylistType;
-use text::scan;
-use text::util::ByteRange;
 ghost use mathlib.Core.Path.{_≡_};
 ghost use Rattle.text.specs.Nom as nom;
 ghost use Rattle.tags.specs.Tags as rule;
 ghost use Rattle.tags.specs.Answers.{tagOf, tagRes};
-
-pub mod heads; // the tags of a playlist's head
-pub mod segment; // the tags of a clip
-pub mod other; // unknown tags, comments, URIs
-pub mod common; // what most lines are, taken at once
 
 // What a tag says of the head.
 pub enum HeadTag {
@@ -67,36 +60,8 @@ pub fn marked(text: &[u8], at: usize, fixed: &[u8], t: Tag) -> TagRes
     ensures { λ r. ⌜ tagRes r ≡ rule.marks (tagOf t) (nom.tag (now (fixed .entry))) (now (text .entry)) at ⌝ }
 {
     if scan::starts_with(text, at, fixed) {
-        TagRes::Ok(t, at + fixed.len())
-    } else {
-        TagRes::Fail(Why::OtherText)
+        let after = at + fixed.len();
+        return TagRes::Ok(t, after);
     }
-}
-
-// Known tags differ in their byte at this place: it stands behind `#EXT-X-`, and in `#EXTINF:` it is the colon.
-pub(crate) const LETTER_PLACE: usize = 7;
-
-pub fn media_segment_tag(text: &[u8], at: usize) -> TagRes
-    ensures { λ r. ⌜ tagRes r ≡ rule.mediaSegmentTag (now (text .entry)) at ⌝ }
-{
-    match segment::segment_tag(text, at) {
-        TagRes::Ok(t, after) => TagRes::Ok(t, after),
-        TagRes::Fail(_) => other::other_tag(text, at),
-    }
-}
-
-// A line that does not begin with `#` is a URI.
-pub fn media_playlist_tag(text: &[u8], at: usize) -> TagRes
-    ensures { λ r. ⌜ tagRes r ≡ rule.mediaPlaylistTag (now (text .entry)) at ⌝ }
-{
-    if text.len() <= at {
-        return TagRes::Fail(Why::MissingByte);
-    }
-    if text[at] != b'#' {
-        return other::uri_line(text, at);
-    }
-    match heads::playlist_tag(text, at) {
-        TagRes::Ok(t, after) => TagRes::Ok(t, after),
-        TagRes::Fail(_) => media_segment_tag(text, at),
-    }
+    TagRes::Fail(Why::OtherText)
 }

@@ -10,7 +10,7 @@ use lib.Dec.{eqb}
 use lib.ListN.{length, drop, getD}
 use lib.Seq.{drop-cons}
 use Rattle.text.specs.Why.{loneCr}
-use Rattle.text.specs.Nom.{Res, fail, ok, Span, span, bytes, isOneOf, isNoneOf, tagged, runEnd, bind, tag, notLineEnding, opt, alt}
+use Rattle.text.specs.Nom.{Res, fail, ok, Span, span, bytes, isNoneOf, tagged, runEnd, bind, tag, notLineEnding, opt, alt, isMultispace}
 use Rattle.text.specs.Util.{consumeLine}
 use Rattle.text.proofs.Laws.{run-step, run-from}
 use Rattle.text.proofs.Takes.{fail-not-ok, when-ok, bind-ok, takes-line, line-takes}
@@ -18,10 +18,10 @@ use Rattle.text.proofs.Ahead.{Every, Stops, run-ahead, run-ends}
 
 -- no blank stands here
 abbrev pub NotBlank : List ℕ → ℕ → Type 0
-NotBlank text at = Stops (isOneOf (bytes " \t\r\n")) (drop at text)
+NotBlank text at = Stops isMultispace (drop at text)
 
-pub not-blank-after : (text : List ℕ) (at : ℕ) → NotBlank text (runEnd (isOneOf (bytes " \t\r\n")) text at)
-not-blank-after = run-ends (isOneOf (bytes " \t\r\n"))
+pub not-blank-after : (text : List ℕ) (at : ℕ) → NotBlank text (runEnd isMultispace text at)
+not-blank-after = run-ends isMultispace
 
 -- the same result with another value
 other-value : {A B : Type 0} (r : Res A) (a b c : B) (n : ℕ) → bind r (λ _ m. ok a m) ≡ ok b n → bind r (λ _ m. ok c m) ≡ ok c n

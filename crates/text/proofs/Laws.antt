@@ -10,7 +10,7 @@ use lib.Dec.{eqb, leb}
 use borrow.Author.Tests.{eq-eqb, ne-eqb, eqb-true, leb-true}
 use lib.ListN.{length, drop, getD, drop-of-length-le, length-drop}
 use lib.Seq.{drop-cons, getD-drop}
-use Rattle.text.specs.Nom.{bytes, isOneOf, begins, tagged, run, runEnd, decimal, isDigit}
+use Rattle.text.specs.Nom.{isOneOf, begins, tagged, run, runEnd, decimal, isDigit, isMultispace}
 
 or-again : (b c : Bool) → (b || (b || c)) ≡ (b || c)
 or-again true c = refl
@@ -38,7 +38,7 @@ pub same-one : (a x : ℕ) → isOneOf (a ∷ a ∷ a ∷ a ∷ []) x ≡ isOneO
 same-one a x = same-two a a x ∙ or-again (eqb a x) false
 
 -- a byte above the space is no blank
-pub above-blank : (x : ℕ) → 32 < x → isOneOf (bytes " \t\r\n") x ≡ false
+pub above-blank : (x : ℕ) → 32 < x → isMultispace x ≡ false
 above-blank x h = rw (ne-eqb 32 x (λ e. omega arith), ne-eqb 9 x (λ e. omega arith), ne-eqb 13 x (λ e. omega arith), ne-eqb 10 x (λ e. omega arith))
 
 -- what is known of a tag's bytes so far, with what is left of it against what is left of the text

@@ -16,15 +16,7 @@ pub mod Blanks
 pub mod Lines
 -- these laws at work
 pub mod LinesExample
--- what digits write
-pub mod Number
 -- what ends a line
 pub mod Line
--- the characters of RFC 3629
-pub mod Chars
--- stretches of places
-pub mod Blocks
--- eight bytes at once
-pub mod Eight
 -- no second answer fits a contract
 pub mod Only

@@ -12,7 +12,7 @@ use lib.ListN.{length, drop, getD, length-append}
 use lib.Seq.{drop-append-add, getD-append-add}
 use borrow.Author.Tests.{ltb-true, ltb-false, lt-ltb, le-ltb, eqb-true, eqb-false, eq-eqb, ne-eqb}
 use Rattle.text.specs.Why.{Why, otherText, noDigits, missingByte, tooLarge, typeEmpty, nameEmpty, loneCr}
-use Rattle.text.specs.Nom.{Res, fail, ok, Parser, Span, span, bytes, isDigit, isNoneOf, isOneOf, tagged, afterTag, runEnd, decimal, when, orElse, orNone, bind, tag, optTag, takeWhile1, isNot, spanOr, optIsNot, skip, take1, peekNoneOf, takeUntil, digit1, notLineEnding, place, preceded}
+use Rattle.text.specs.Nom.{Res, fail, ok, Parser, Span, span, bytes, isDigit, isNoneOf, isOneOf, tagged, afterTag, runEnd, decimal, when, orElse, orNone, bind, tag, optTag, takeWhile1, isNot, spanOr, optIsNot, skip, take1, peekNoneOf, takeUntil, digit1, notLineEnding, place, preceded, peekTake1}
 use Rattle.text.specs.Many.{Many, many, push, goOn, collected, many0, manyTurns}
 use Rattle.text.specs.Util.{consumeLine, Parsed, fits, large, parse, parsed, orFail, orZero, number, numberOrZero, ByteRange, range, byteRangeVal, spells}
 use Rattle.text.specs.BasicTags.{m3uTag, ExtTag, ext, extTag, commentTag, PlaylistType, event, vod, other, fromStr, playlistType}
@@ -160,6 +160,9 @@ skip-local set pre xs n = rw (run-moves pre xs n (isOneOf set)) (done-moves stil
 
 pub one-local : Local still take1
 one-local pre xs n = rw (in-moves pre xs n, add-assoc (length pre) n 1) (when-moves still (length pre) (ltb n (length xs)) missingByte tt (n + 1))
+
+pub peek-one-local : Local still peekTake1
+peek-one-local pre xs n = rw (in-moves pre xs n) (when-moves still (length pre) (ltb n (length xs)) missingByte tt n)
 
 pub peek-local : (set : List ℕ) → Local still (peekNoneOf set)
 peek-local set pre xs n = rw (in-moves pre xs n, getD-append-add pre xs n 0) (when-moves still (length pre) (ltb n (length xs) && isNoneOf set (getD xs n 0)) missingByte tt n)

@@ -1,6 +1,5 @@
 -- An answer is determined: no second one meets a contract, since from what an answer says (its view) there is a way back to it. Assumes nothing.
 use mathlib.Core.Path.{_≡_, refl, sym, _∙_, ap}
-use mathlib.Core.Bool.{Bool, true, false}
 use mathlib.Core.Option.{Option, none, some}
 use Prim.Native.Nat.{ℕ, zero, suc, _-_}
 use native.Mathlib.Omega.{arith}
@@ -15,25 +14,9 @@ use Rattle.text.specs.declared.PartRes.{PartRes}
 use Rattle.text.specs.declared.PartRes.the-variants as partResᵛ
 use Rattle.text.specs.declared.PlaceRes.{PlaceRes}
 use Rattle.text.specs.declared.PlaceRes.the-variants as placeResᵛ
-use Rattle.text.specs.declared.util.Parsed as parsedᵈ
-use Rattle.text.specs.declared.util.Parsed.the-variants as parsedᵛ
-use Rattle.text.specs.declared.util.Offset as offsetᵈ
-use Rattle.text.specs.declared.util.Offset.the-variants as offsetᵛ
-use Rattle.text.specs.declared.util.ByteRange as rangeᵈ
-use Rattle.text.specs.declared.util.ByteRangeRes.{ByteRangeRes}
-use Rattle.text.specs.declared.util.ByteRangeRes.the-variants as rangeResᵛ
-use Rattle.text.specs.declared.basic_tags.ExtTag as extᵈ
-use Rattle.text.specs.declared.basic_tags.ExtTagRes.{ExtTagRes}
-use Rattle.text.specs.declared.basic_tags.ExtTagRes.the-variants as extResᵛ
-use Rattle.text.specs.declared.basic_tags.PlaylistType as typeᵈ
-use Rattle.text.specs.declared.basic_tags.PlaylistType.the-variants as typeᵛ
-use Rattle.text.specs.declared.basic_tags.PlaylistTypeRes.{PlaylistTypeRes}
-use Rattle.text.specs.declared.basic_tags.PlaylistTypeRes.the-variants as typeResᵛ
 use Rattle.text.specs.Why.{Why, otherText, noDigits, tooLarge, missingByte, typeEmpty, nameEmpty, noUri, uriNotQuoted, rangeNotQuoted, rangeBad, loneCr}
 use Rattle.text.specs.Nom.{Res, fail, ok, Span, span}
-use Rattle.text.specs.Util.{Parsed, fits, large, ByteRange, range}
-use Rattle.text.specs.BasicTags.{ExtTag, ext, PlaylistType, event, vod, other}
-use Rattle.text.specs.Answers.{whyOf, spanOf, partOf, spanRes, partRes, placeRes, taken, charOf, parsedOf, offsetOf, byteRangeOf, byteRangeRes, extTagOf, extTagRes, typeOf, playlistTypeRes}
+use Rattle.text.specs.Answers.{whyOf, spanOf, partOf, spanRes, partRes, placeRes}
 
 module _ {A B : Type 0} (view : A → B) where
   -- two answers that say the same are the same
@@ -129,116 +112,3 @@ place-res-only = only-by placeRes placeResBack go
     go : (r : PlaceRes) → placeResBack (placeRes r) ≡ r
     go (placeResᵛ.Fail why) = ap placeResᵛ.Fail (why-back why)
     go (placeResᵛ.Ok n) = refl
-
--- ---- characters
-abbrev takenBack : Res (Unit {0}) → Bool
-takenBack (fail why) = false
-takenBack (ok u n) = true
-
-pub taken-only : (n : ℕ) → Only (λ b. taken b n)
-taken-only n = only-by (λ b. taken b n) takenBack go
-  where
-    go : (b : Bool) → takenBack (taken b n) ≡ b
-    go true = refl
-    go false = refl
-
-abbrev charBack : ℕ → Res (Unit {0}) → ℕ
-charBack at (fail why) = 0
-charBack at (ok u n) = n - at
-
-pub char-only : (at : ℕ) → Only (λ n. charOf n at)
-char-only at = only-by (λ n. charOf n at) (charBack at) go
-  where
-    go : (n : ℕ) → charBack at (charOf n at) ≡ n
-    go zero = refl
-    go (suc n) = omega arith
-
--- ---- numbers and byte ranges
-abbrev parsedBack : Res Parsed → parsedᵈ.Parsed
-parsedBack (fail why) = parsedᵛ.NoDigits
-parsedBack (ok large n) = parsedᵛ.TooLarge n
-parsedBack (ok (fits v) n) = parsedᵛ.Value v n
-
-pub parsed-only : Only parsedOf
-parsed-only = only-by parsedOf parsedBack go
-  where
-    go : (r : parsedᵈ.Parsed) → parsedBack (parsedOf r) ≡ r
-    go parsedᵛ.NoDigits = refl
-    go (parsedᵛ.TooLarge n) = refl
-    go (parsedᵛ.Value v n) = refl
-
-abbrev offsetBack : Option ℕ → offsetᵈ.Offset
-offsetBack none = offsetᵛ.Absent
-offsetBack (some o) = offsetᵛ.At o
-
-offset-back : (o : offsetᵈ.Offset) → offsetBack (offsetOf o) ≡ o
-offset-back offsetᵛ.Absent = refl
-offset-back (offsetᵛ.At o) = refl
-
-pub offset-only : Only offsetOf
-offset-only = only-by offsetOf offsetBack offset-back
-
-abbrev pub byteRangeBack : ByteRange → rangeᵈ.ByteRange
-byteRangeBack (range n o) = record { length = n; offset = offsetBack o }
-
-pub byte-range-back : (r : rangeᵈ.ByteRange) → byteRangeBack (byteRangeOf r) ≡ r
-byte-range-back r = ap (λ (o : offsetᵈ.Offset). record { length = r .length; offset = o }) (offset-back (r .offset))
-
-pub byte-range-only : Only byteRangeOf
-byte-range-only = only-by byteRangeOf byteRangeBack byte-range-back
-
-abbrev byteRangeResBack : Res ByteRange → ByteRangeRes
-byteRangeResBack (fail why) = rangeResᵛ.Fail (whyBack why)
-byteRangeResBack (ok r n) = rangeResᵛ.Ok (byteRangeBack r) n
-
-pub byte-range-res-only : Only byteRangeRes
-byte-range-res-only = only-by byteRangeRes byteRangeResBack go
-  where
-    go : (r : ByteRangeRes) → byteRangeResBack (byteRangeRes r) ≡ r
-    go (rangeResᵛ.Fail why) = ap rangeResᵛ.Fail (why-back why)
-    go (rangeResᵛ.Ok r n) = ap (λ (q : rangeᵈ.ByteRange). rangeResᵛ.Ok q n) (byte-range-back r)
-
--- ---- tags
-abbrev pub extTagBack : ExtTag → extᵈ.ExtTag
-extTagBack (ext name rest) = record { tag = spanBack name; rest = partBack rest }
-
-pub ext-tag-back : (t : extᵈ.ExtTag) → extTagBack (extTagOf t) ≡ t
-ext-tag-back t = ap (λ (p : partᵈ.Part). record { tag = t .tag; rest = p }) (part-back (t .rest))
-
-pub ext-tag-only : Only extTagOf
-ext-tag-only = only-by extTagOf extTagBack ext-tag-back
-
-abbrev extTagResBack : Res ExtTag → ExtTagRes
-extTagResBack (fail why) = extResᵛ.Fail (whyBack why)
-extTagResBack (ok t n) = extResᵛ.Ok (extTagBack t) n
-
-pub ext-tag-res-only : Only extTagRes
-ext-tag-res-only = only-by extTagRes extTagResBack go
-  where
-    go : (r : ExtTagRes) → extTagResBack (extTagRes r) ≡ r
-    go (extResᵛ.Fail why) = ap extResᵛ.Fail (why-back why)
-    go (extResᵛ.Ok t n) = ap (λ (q : extᵈ.ExtTag). extResᵛ.Ok q n) (ext-tag-back t)
-
-abbrev pub typeBack : PlaylistType → typeᵈ.PlaylistType
-typeBack event = typeᵛ.Event
-typeBack vod = typeᵛ.Vod
-typeBack (other s) = typeᵛ.Other (spanBack s)
-
-pub type-back : (t : typeᵈ.PlaylistType) → typeBack (typeOf t) ≡ t
-type-back typeᵛ.Event = refl
-type-back typeᵛ.Vod = refl
-type-back (typeᵛ.Other s) = refl
-
-pub type-only : Only typeOf
-type-only = only-by typeOf typeBack type-back
-
-abbrev typeResBack : Res PlaylistType → PlaylistTypeRes
-typeResBack (fail why) = typeResᵛ.Fail (whyBack why)
-typeResBack (ok t n) = typeResᵛ.Ok (typeBack t) n
-
-pub playlist-type-res-only : Only playlistTypeRes
-playlist-type-res-only = only-by playlistTypeRes typeResBack go
-  where
-    go : (r : PlaylistTypeRes) → typeResBack (playlistTypeRes r) ≡ r
-    go (typeResᵛ.Fail why) = ap typeResᵛ.Fail (why-back why)
-    go (typeResᵛ.Ok t n) = ap (λ (q : typeᵈ.PlaylistType). typeResᵛ.Ok q n) (type-back t)

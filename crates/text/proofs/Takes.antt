@@ -10,7 +10,7 @@ use lib.Dec.{ltb, leb, eqb}
 use lib.ListN.{length, getD}
 use borrow.Author.Tests.{ltb-true, ltb-false, eqb-true, eq-eqb}
 use Rattle.text.specs.Why.{Why, otherText, noDigits, missingByte, typeEmpty, nameEmpty, tooLarge, loneCr}
-use Rattle.text.specs.Nom.{Res, fail, ok, Parser, Span, span, bytes, isDigit, isNoneOf, isOneOf, tagged, afterTag, runEnd, when, orElse, orNone, bind, tag, optTag, takeWhile1, isNot, optIsNot, skip, take1, peekNoneOf, takeUntil, digit1, notLineEnding, opt, alt, done, place, verify, map, preceded, _>>=_}
+use Rattle.text.specs.Nom.{Res, fail, ok, Parser, Span, span, bytes, isDigit, isNoneOf, isOneOf, tagged, afterTag, runEnd, when, orElse, orNone, bind, tag, optTag, takeWhile1, isNot, optIsNot, skip, take1, peekNoneOf, takeUntil, digit1, notLineEnding, opt, alt, done, place, verify, map, preceded, _>>=_, multispace0, space0, peekTake1}
 use Rattle.text.specs.Many.{many0, manyTurns, goOn, stop, collected, Many, many}
 use Rattle.text.specs.Utf8.{byteIn, row2, row3, row4, utf8Char, utf8End}
 use Rattle.text.specs.Util.{consumeLine, Parsed, fits, large, parse, parsed, orFail, orZero, number, numberOrZero, range, byteRangeVal}
@@ -94,8 +94,17 @@ takes-opt-is-not set text at n a e = let z : runEnd (isNoneOf set) text at ≡ n
 pub takes-skip : (set : List ℕ) → Takes 0 (skip set)
 takes-skip set text at n a e = let z : runEnd (isOneOf set) text at ≡ n = cc in rw (← z) (went-run text at (isOneOf set))
 
+pub takes-multispace0 : Takes 0 multispace0
+takes-multispace0 = takes-skip (bytes " \t\r\n")
+
+pub takes-space0 : Takes 0 space0
+takes-space0 = takes-skip (bytes " \t")
+
 pub takes-one : Takes 1 take1
 takes-one text at n a = when-went 1 text at n a (ltb at (length text)) missingByte tt (at + 1) (λ q. (omega arith, λ h. omega (arith, ltb-true at (length text) q)))
+
+pub takes-peek-one : Takes 0 peekTake1
+takes-peek-one text at n a = when-went 0 text at n a (ltb at (length text)) missingByte tt at (λ q. went-none text at)
 
 pub takes-peek : (set : List ℕ) → Takes 0 (peekNoneOf set)
 takes-peek set text at n a = when-went 0 text at n a (ltb at (length text) && isNoneOf set (getD text at 0)) missingByte tt at (λ q. went-none text at)

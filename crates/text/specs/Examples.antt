@@ -2,7 +2,7 @@
 use Prim.Native.Nat.{_^_, _-_}
 use mathlib.Core.Bool.{true, false}
 use mathlib.Core.Path.{_≡_, refl}
-use mathlib.Core.List.{[], _∷_, map}
+use mathlib.Core.List.{[], _∷_}
 use mathlib.Core.Option.{none, some}
 use Rattle.text.specs.Why.{otherText, noDigits, tooLarge, missingByte, typeEmpty, nameEmpty, loneCr}
 use Rattle.text.specs.Nom.{fail, ok, span, bytes, isDigit, begins, tagged, afterTag, run, runEnd, decimal}
@@ -10,7 +10,6 @@ use Rattle.text.specs.Many.{many0, manyTurns}
 use Rattle.text.specs.Utf8.{utf8End, utf8Char, row2, row3, row4, byteIn}
 use Rattle.text.specs.Util.{consumeLine, parsed, number, numberOrZero, byteRangeVal, range, spells}
 use Rattle.text.specs.BasicTags.{m3uTag, extTag, ext, commentTag, playlistType, event, other}
-use Rattle.text.specs.Word.{bytesOf, mark}
 
 -- ---- UTF-8
 euro : utf8End (0x61 ∷ 0xE2 ∷ 0x82 ∷ 0xAC ∷ 0x62 ∷ []) 0 ≡ 5
@@ -141,12 +140,3 @@ other-type = refl
 no-type : playlistType (bytes "\n") 0 ≡ fail typeEmpty
 unfolding playlistType runEnd run spells tagged begins
 no-type = refl
-
--- ---- a number as bytes
-lowest-first : bytesOf 4 0x620A0D61 ≡ bytes "a\r\nb"
-unfolding bytesOf
-lowest-first = refl
-
-line-ends-marked : map mark (bytes "a\r\nb") ≡ 0 ∷ 128 ∷ 128 ∷ 0 ∷ []
-unfolding mark
-line-ends-marked = refl

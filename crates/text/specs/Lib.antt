@@ -8,10 +8,10 @@ pub mod Utf8
 -- parser.rs: Util, Basic tags
 pub mod Util
 pub mod BasicTags
+-- spans of a text
+pub mod Spans
 -- a text made of lines
 pub mod Lines
--- a number as bytes
-pub mod Word
 -- what the code's answers say in these words
 pub mod Answers
 pub mod Examples

@@ -113,13 +113,31 @@ spanOr s e = cond (ltb s e) (some (span s e)) none
 abbrev pub optIsNot : List ℕ → Parser (Option Span)
 optIsNot set text at = ok (spanOr at (runEnd (isNoneOf set) text at)) (runEnd (isNoneOf set) text at)
 
--- multispace0, space0, opt(is_a(set)): any run of these bytes, dropped
+-- opt(is_a(set)): any run of these bytes, dropped
 abbrev pub skip : List ℕ → Parser (Unit {0})
 skip set text at = ok tt (runEnd (isOneOf set) text at)
+
+-- multispace0: "White space (space, tab, CR, LF)"
+abbrev pub isMultispace : ℕ → Bool
+isMultispace = isOneOf (bytes " \t\r\n")
+
+abbrev pub multispace0 : Parser (Unit {0})
+multispace0 text at = ok tt (runEnd isMultispace text at)
+
+-- space0: "spaces and tabs"
+abbrev pub isSpace : ℕ → Bool
+isSpace = isOneOf (bytes " \t")
+
+abbrev pub space0 : Parser (Unit {0})
+space0 text at = ok tt (runEnd isSpace text at)
 
 -- take(1): one byte, any
 abbrev pub take1 : Parser (Unit {0})
 take1 text at = when (ltb at (length text)) missingByte (ok tt (at + 1))
+
+-- peek(take(1)): a byte is there, any; it is not taken
+abbrev pub peekTake1 : Parser (Unit {0})
+peekTake1 text at = when (ltb at (length text)) missingByte (ok tt at)
 
 -- peek(none_of(set)): a byte is there, and none of these; nothing is taken
 abbrev pub peekNoneOf : List ℕ → Parser (Unit {0})

@@ -1,12 +1,5 @@
-// What stands at a place of a playlist's text: the leaves that every tag is read with (parser.rs, "Util" and "Basic tags").
-// Each function takes any text and any place, past the end too. Its contract is one equation with a rule of `specs/`.
-// A rule that fails says why, and the answer here carries the same reason.
-
-pub mod utf8; // RFC 3629
-pub mod scan; // prefixes, and runs of bytes
-mod word; // eight bytes at once
-pub mod util; // lines, numbers, byte ranges
-pub mod basic_tags; // the first line, unknown tags, comments, playlist types
+// What stands at a place of a playlist's text: the rules (nom's combinators; parser.rs, "Util" and "Basic tags"; RFC 3629) in `specs/`, their laws in
+// `proofs/`, and here the values that the answers of the floors above are made of. A rule that fails says why, and each answer carries the same reason.
 
 // A part of the text: from its first byte to the place after its last.
 pub struct Span {

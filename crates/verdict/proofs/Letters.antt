@@ -1,121 +1,88 @@
--- Which names can be there at all, by one byte of theirs: a name is not there where the text has another byte at the same place. Of the eighteen `#EXTINF`
--- alone has `I` at place 4, and at place 7 the others differ most. Assumes nothing.
-use Prim.Native.Nat.{ℕ, _+_, _≤_, _<_}
+-- Which rows can be there at all, by one byte of theirs: a row is not there where the text has another byte at the same place, so only those with that byte
+-- need be tried. Assumes nothing.
+use Prim.Native.Nat.{ℕ, _+_}
 use mathlib.Core.Path.{_≡_, refl, sym, _∙_, ap}
-use mathlib.Core.Bool.{Bool, true, false, cond, false≢true}
-use mathlib.Core.List.{List}
-use native.Mathlib.Nat.{add-zero}
-use native.Mathlib.Omega.{arith}
+use mathlib.Core.Bool.{Bool, true, false, cond, _||_, false≢true}
+use mathlib.Core.List.{List, [], _∷_, _++_}
 use lib.Dec.{eqb}
-use lib.ListN.{length, getD}
-use borrow.Author.Tests.{ne-eqb, eqb-false}
+use lib.ListN.{getD}
+use borrow.Author.Tests.{ltb-true, eqb-true, eqb-false, ne-eqb}
 use Rattle.text.specs.Why.{otherText}
-use Rattle.text.specs.Nom.{Res, Parser, fail, bytes, tagged, orElse, tag, alt}
+use Rattle.text.specs.Nom.{Res, fail, ok, isOneOf, orElse, orNone, opt, alt}
 use Rattle.text.proofs.Laws.{tagged-other}
-use Rattle.text.proofs.Chain.{or-assoc, or-same}
-use Rattle.verdict.specs.Verdict.{kind, masterTag, playlistTag, segmentTag, mediaTag}
-use Rattle.verdict.proofs.Tags.{group, group-no-tag}
+use Rattle.text.proofs.Chain.{or-assoc}
+use Rattle.verdict.specs.Verdict.{Row, literal, reads, firstOf, masterNames, playlistNames, segmentNames, masterKind, playlistKind, segmentKind, mediaKind}
+use Rattle.verdict.specs.Inside.Letters.{rows, having, orRow, orFirst, found}
+use Rattle.verdict.proofs.Rows.{longer, holdAll, holds-first, hold-rest, row-not}
 
--- a chain of names, each with a test that leaves it out
+-- ---- a byte that no row has
+-- x is none of these, the last one first: what is known in the `_` of a `match`
+abbrev pub Apart : ℕ → List ℕ → Type 0
+Apart x [] = Unit {0}
+Apart x (y ∷ ys) = Apart x ys × (x ≡ y → ⊥)
+
+apart : (x : ℕ) (ys : List ℕ) → Apart x ys → (z : ℕ) → isOneOf ys z ≡ true → eqb x z ≡ false
+apart x [] h z e = absurd (false≢true e)
+apart x (y ∷ ys) h z e = go (eqb y z) refl (apart x ys (h .0) z) e
+  where
+    go : (b : Bool) → eqb y z ≡ b → (isOneOf ys z ≡ true → eqb x z ≡ false) → (b || isOneOf ys z) ≡ true → eqb x z ≡ false
+    go true q ih e = ne-eqb x z (λ p. h .1 (p ∙ sym (eqb-true y z q)))
+    go false q ih e = ih e
+
+abbrev pub among : ℕ → List ℕ → Row → Bool
+among k ys r = isOneOf ys (getD (literal r) k 0)
+
+none-having : (k x : ℕ) (ys : List ℕ) → Apart x ys → (rs : List Row) → holdAll (among k ys) rs ≡ true → having k x rs ≡ []
+none-having k x ys h [] e = refl
+none-having k x ys h (r ∷ rs) e = rw (apart x ys h _ (holds-first (among k ys) r rs e)) (none-having k x ys h rs (hold-rest (among k ys) r rs e))
+
+-- ---- the reason for none is dropped, so one will do
+abbrev plain : Res Bool → Res Bool
+plain r = orElse r (fail otherText)
+
+none-plain : (r : Res Bool) (at : ℕ) → orNone (plain r) at ≡ orNone r at
+none-plain (fail why) at = refl
+none-plain (ok k n) at = refl
+
 module _ (text : List ℕ) (at : ℕ) where
-  pub data Tests : Res Bool → Type 0 where
-    last : (b k : Bool) (t : List ℕ) → (b ≡ false → tagged t text at ≡ false) → Tests (kind k (tag t) text at)
-    each : {q : Res Bool} (b : Bool) (p : Res Bool) → (b ≡ false → p ≡ fail otherText) → Tests q → Tests (orElse p q)
+  abbrev pub tried : List Row → Res Bool
+  tried [] = fail otherText
+  tried (r ∷ rs) = orElse (reads r text at) (tried rs)
 
-  -- those that are not left out, then z
-  abbrev pub tried : {r : Res Bool} → Tests r → Res Bool → Res Bool
-  tried (last b k t f) z = orElse (cond b (kind k (tag t) text at) (fail otherText)) z
-  tried (each b p f n) z = orElse (cond b p (fail otherText)) (tried n z)
+  tried-append : (rs qs : List Row) → tried (rs ++ qs) ≡ orElse (firstOf rs text at) (tried qs)
+  tried-append [] qs = refl
+  tried-append (r ∷ []) qs = refl
+  tried-append (r ∷ q ∷ rs) qs = ap (orElse (reads r text at)) (tried-append (q ∷ rs) qs) ∙ or-assoc (reads r text at) (firstOf (q ∷ rs) text at) (tried qs)
 
-  kept : (b : Bool) (p : Res Bool) → (b ≡ false → p ≡ fail otherText) → cond b p (fail otherText) ≡ p
-  kept true p f = refl
-  kept false p f = sym (f refl)
+  tried-or : (r : Res Bool) (rs : List Row) → plain (orFirst r rs text at) ≡ orElse r (tried rs)
+  unfolding orRow
+  tried-or r [] = refl
+  tried-or r (q ∷ qs) = tried-or (orElse r (reads q text at)) qs ∙ sym (or-assoc r (reads q text at) (tried qs))
 
-  pub no-name : (k : Bool) (t : List ℕ) → tagged t text at ≡ false → kind k (tag t) text at ≡ fail otherText
-  no-name k t e = rw e
+  -- all rows are the rule
+  joined : (rs qs : List Row) (q : Res Bool) → tried qs ≡ plain q → tried (rs ++ qs) ≡ plain (orElse (firstOf rs text at) q)
+  joined rs qs q e = tried-append rs qs ∙ ap (orElse (firstOf rs text at)) e ∙ or-assoc (firstOf rs text at) q (fail otherText)
 
-  by-tests : {r : Res Bool} (n : Tests r) (z : Res Bool) → tried n z ≡ orElse r z
-  by-tests (last b k t f) z = ap (λ (p : Res Bool). orElse p z) (kept b _ (λ e. no-name k t (f e)))
-  by-tests (each {q} b p f n) z = ap (λ (x : Res Bool). orElse x (tried n z)) (kept b p f) ∙ ap (orElse p) (by-tests n z) ∙ or-assoc p q z
+  all-tried : tried rows ≡ plain (alt masterKind mediaKind text at)
+  unfolding masterKind playlistKind segmentKind mediaKind
+  all-tried = joined masterNames (playlistNames ++ segmentNames) (mediaKind text at) (joined playlistNames segmentNames (segmentKind text at) (tried-append segmentNames []))
 
-  pub one : (k : Bool) (t : List ℕ) → kind k (tag t) text at ≡ orElse (kind k (tag t) text at) (fail otherText)
-  one k t = sym (or-same (tagged t text at) otherText k (at + length t))
+  -- ---- by the byte at place k
+  pub by-byte : (k x : ℕ) → getD text (at + k) 0 ≡ x → (rs : List Row) → holdAll (longer k) rs ≡ true → tried (having k x rs) ≡ tried rs
+  by-byte k x seen [] l = refl
+  by-byte k x seen (r ∷ rs) l = go (eqb x (getD (literal r) k 0)) refl (by-byte k x seen rs (hold-rest (longer k) r rs l))
+    where
+      go : (b : Bool) → eqb x (getD (literal r) k 0) ≡ b → tried (having k x rs) ≡ tried rs → tried (cond b (r ∷ having k x rs) (having k x rs)) ≡ orElse (reads r text at) (tried rs)
+      go true e ih = ap (orElse (reads r text at)) ih
+      go false e ih = rw (row-not text at r (tagged-other (literal r) text at k (ltb-true k _ (holds-first (longer k) r rs l)) (λ q. eqb-false x _ e (sym seen ∙ q)))) ih
 
-  pub after : (p : Parser Bool) {q r : Res Bool} → q ≡ r → orElse (p text at) q ≡ orElse (p text at) r
-  after p e = ap (orElse (p text at)) e
+  -- where the rows rs are enough, those of them with the text's byte are
+  module _ (k : ℕ) (rs : List Row) (l : holdAll (longer k) rs ≡ true) (enough : tried rs ≡ tried rows) (x : ℕ) (seen : getD text (at + k) 0 ≡ x) where
+    pub told-having : (r : Res Bool) → r ≡ found (having k x rs) text at → orNone r at ≡ opt (alt masterKind mediaKind) text at
+    told-having r e =
+        let same = ap plain e ∙ tried-or (fail otherText) (having k x rs) ∙ by-byte k x seen rs l ∙ enough ∙ all-tried in
+        sym (none-plain r at) ∙ ap (λ (q : Res Bool). orNone q at) same ∙ none-plain (alt masterKind mediaKind text at) at
 
-  ends : {r : Res Bool} → Tests r → orElse r (fail otherText) ≡ r
-  ends (last b k t f) = sym (one k t)
-  ends (each {q} b p f n) = sym (or-assoc p q (fail otherText)) ∙ ap (orElse p) (ends n)
-
-  -- the names by their byte at place k, where the text has c; `#EXTINF` by a test of its own
-  module _ (k c : ℕ) (h : k ≤ 7) (seen : c ≡ getD text (at + k) 0) where
-    pub other : (t : List ℕ) → 7 < length t → eqb c (getD t k 0) ≡ false → tagged t text at ≡ false
-    other t l e = tagged-other t text at k (omega arith) (λ q. eqb-false c (getD t k 0) e (seen ∙ q))
-
-    abbrev pub name : {q : Res Bool} (m : Bool) (t : List ℕ) → 7 < length t → Tests q → Tests (orElse (kind m (tag t) text at) q)
-    name m t l n = each (eqb c (getD t k 0)) (kind m (tag t) text at) (λ e. no-name m t (other t l e)) n
-
-    abbrev pub final : (m : Bool) (t : List ℕ) → 7 < length t → Tests (kind m (tag t) text at)
-    final m t l = last (eqb c (getD t k 0)) m t (other t l)
-
-    unfoldable pub masterTests : Tests (masterTag text at)
-    unfolding masterTag
-    masterTests =
-        name true (bytes "#EXT-X-STREAM-INF") (omega arith)
-        (name true (bytes "#EXT-X-I-FRAME-STREAM-INF") (omega arith)
-        (each (eqb c (getD (bytes "#EXT-X-MEDIA") k 0)) (group text at) (λ e. group-no-tag text at (other (bytes "#EXT-X-MEDIA") (omega arith) e))
-        (name true (bytes "#EXT-X-SESSION-KEY") (omega arith)
-        (final true (bytes "#EXT-X-SESSION-DATA") (omega arith)))))
-
-    unfoldable pub playlistTests : Tests (playlistTag text at)
-    unfolding playlistTag
-    playlistTests =
-        name false (bytes "#EXT-X-TARGETDURATION") (omega arith)
-        (name false (bytes "#EXT-X-MEDIA-SEQUENCE") (omega arith)
-        (name false (bytes "#EXT-X-DISCONTINUITY-SEQUENCE") (omega arith)
-        (name false (bytes "#EXT-X-ENDLIST") (omega arith)
-        (name false (bytes "#EXT-X-PLAYLIST-TYPE") (omega arith)
-        (final false (bytes "#EXT-X-I-FRAMES-ONLY") (omega arith))))))
-
-    unfoldable pub segmentTests : (b : Bool) → (b ≡ false → tagged (bytes "#EXTINF") text at ≡ false) → Tests (segmentTag text at)
-    unfolding segmentTag
-    segmentTests b f =
-        each b (kind false (tag (bytes "#EXTINF")) text at) (λ e. no-name false (bytes "#EXTINF") (f e))
-        (name false (bytes "#EXT-X-BYTERANGE") (omega arith)
-        (name false (bytes "#EXT-X-DISCONTINUITY") (omega arith)
-        (name false (bytes "#EXT-X-KEY") (omega arith)
-        (name false (bytes "#EXT-X-MAP") (omega arith)
-        (name false (bytes "#EXT-X-PROGRAM-DATE-TIME") (omega arith)
-        (final false (bytes "#EXT-X-DATERANGE") (omega arith)))))))
-
-  joined : (m : Tests (masterTag text at)) (p : Tests (playlistTag text at)) (s : Tests (segmentTag text at)) → tried m (tried p (tried s (fail otherText))) ≡ alt masterTag mediaTag text at
-  unfolding mediaTag
-  joined m p s = by-tests m _ ∙ ap (orElse (masterTag text at)) (by-tests p _ ∙ ap (orElse (playlistTag text at)) (by-tests s _ ∙ ends s))
-
-  -- no `#` at place 0: none
-  pub none-tells : (getD text at 0 ≡ 35 → ⊥) → fail otherText ≡ alt masterTag mediaTag text at
-  unfolding masterTests playlistTests segmentTests
-  none-tells not-so =
-      let c = getD text at 0 in
-      let seen : c ≡ getD text (at + 0) 0 = ap (λ (n : ℕ). getD text n 0) (sym (add-zero at)) in
-      let no-line : tagged (bytes "#EXTINF") text at ≡ false = tagged-other (bytes "#EXTINF") text at 0 (omega arith) (λ e. not-so (seen ∙ e)) in
-      rw (ne-eqb c 35 not-so) at (joined (masterTests 0 c (omega arith) seen) (playlistTests 0 c (omega arith) seen) (segmentTests 0 c (omega arith) seen false (λ _. no-line)))
-
-  -- `I` at place 4: `#EXTINF` or none
-  pub told-by-line : 73 ≡ getD text (at + 4) 0 → kind false (tag (bytes "#EXTINF")) text at ≡ alt masterTag mediaTag text at
-  unfolding masterTests playlistTests segmentTests
-  told-by-line seen =
-      one false (bytes "#EXTINF")
-      ∙ joined (masterTests 4 73 (omega arith) seen) (playlistTests 4 73 (omega arith) seen) (segmentTests 4 73 (omega arith) seen true (λ e. absurd (false≢true (sym e))))
-
-  -- another byte there: the names with letter x at place 7
-  module _ (x : ℕ) (seen : x ≡ getD text (at + 7) 0) (not-so : getD text (at + 4) 0 ≡ 73 → ⊥) where
-    pub no-line : tagged (bytes "#EXTINF") text at ≡ false
-    no-line = tagged-other (bytes "#EXTINF") text at 4 (omega arith) not-so
-
-    abbrev pub ofLetter : Res Bool
-    ofLetter = tried (masterTests 7 x (omega arith) seen) (tried (playlistTests 7 x (omega arith) seen) (tried (segmentTests 7 x (omega arith) seen false (λ _. no-line)) (fail otherText)))
-
-    pub told-by-letter : ofLetter ≡ alt masterTag mediaTag text at
-    told-by-letter = joined (masterTests 7 x (omega arith) seen) (playlistTests 7 x (omega arith) seen) (segmentTests 7 x (omega arith) seen false (λ _. no-line))
+    -- and if none of them has it, none is there
+    pub told-none : (ys : List ℕ) → Apart x ys → holdAll (among k ys) rs ≡ true → orNone (fail otherText) at ≡ opt (alt masterKind mediaKind) text at
+    told-none ys h e = told-having (fail otherText) (rw (none-having k x ys h rs e))

@@ -1,8 +1,8 @@
--- the names of a kind, and `#EXT-X-MEDIA` with its run
-pub mod Tags
--- which names can be there at all, by one byte of theirs
+-- laws of a row, whatever its text
+pub mod Rows
+-- which rows can be there at all, by one byte of theirs
 pub mod Letters
--- how far a tag and a line go
+-- how far a row and a line go
 pub mod Takes
 -- the verdict, line by line
 pub mod FirstSaid

@@ -1,44 +1,33 @@
 -- How far the rules of the verdict go: a tag takes a byte at least, and so does a line. Assumes nothing.
-use Prim.Native.Nat.{ℕ, suc, _<_}
+use Prim.Native.Nat.{ℕ, _+_, _<_}
 use mathlib.Core.Path.{_≡_, refl}
-use mathlib.Core.Bool.{Bool, true, false, _&&_}
-use mathlib.Core.List.{List, [], _∷_, _++_}
+use mathlib.Core.Bool.{Bool, true, false}
+use mathlib.Core.List.{List, [], _∷_}
 use native.Mathlib.Omega.{arith}
 use lib.Dec.{ltb}
-use lib.ListN.{length, getD}
+use lib.ListN.{length}
 use borrow.Author.Tests.{ltb-true, ltb-false}
 use Rattle.text.specs.Why.{otherText, missingByte}
-use Rattle.text.specs.Nom.{Span, bytes, tag, isOneOf, isNoneOf, runEnd, opt, alt, ok}
+use Rattle.text.specs.Nom.{Span, bytes, tag, isOneOf, runEnd, opt, alt, ok}
 use Rattle.text.specs.Util.{consumeLine}
-use Rattle.text.proofs.Laws.{and-left}
 use Rattle.text.proofs.Takes.{Went, Takes, went-run, went-on, fail-not-ok, when-ok, bind-ok, takes-tag, takes-is-not, takes-bind, takes-less, takes-alt, takes-opt, takes-map, takes-line, line-takes}
-use Rattle.verdict.specs.Verdict.{kind, masterTag, playlistTag, segmentTag, mediaTag, isMasterPlaylistTagLine}
-use Rattle.verdict.proofs.Tags.{named, group, sessionNames, playlistNames, segmentNames}
+use Rattle.verdict.specs.Verdict.{Row, fixed, undashed, reads, firstOf, masterNames, playlistNames, segmentNames, masterKind, playlistKind, segmentKind, mediaKind, isMasterPlaylistTagLine}
+use Rattle.verdict.proofs.Rows.{longer, holdAll, holds-first, hold-rest}
 
-takes-kind : (k : Bool) (t : List ℕ) → Takes 1 (kind k (tag (bytes "#" ++ t)))
-takes-kind k t = takes-less 1 (suc (length t)) (omega arith) _ (takes-map (suc (length t)) (λ _. k) _ (takes-tag (bytes "#" ++ t)))
+takes-row : (r : Row) → longer 0 r ≡ true → Takes 1 (reads r)
+takes-row (fixed t k) l = takes-less 1 (length t) (ltb-true 0 (length t) l) _ (takes-map (length t) (λ _. k) (tag t) (takes-tag t))
+takes-row (undashed t k) l =
+    let run = takes-bind (length t) 1 (tag t) _ (takes-tag t) (λ _. takes-is-not missingByte (bytes "-")) in
+    takes-less 1 (length t + 1) (omega arith) _ (takes-map (length t + 1) (λ _. k) _ run)
 
-takes-named : (k : Bool) (ts : List (List ℕ)) → Takes 1 (named k ts)
-takes-named k [] = λ text at n a e. absurd (fail-not-ok otherText a n e)
-takes-named k (t ∷ []) = takes-kind k t
-takes-named k (t ∷ u ∷ ts) = takes-alt 1 _ _ (takes-kind k t) (takes-named k (u ∷ ts))
+takes-rows : (rs : List Row) → holdAll (longer 0) rs ≡ true → Takes 1 (firstOf rs)
+takes-rows [] h = λ text at n a e. absurd (fail-not-ok otherText a n e)
+takes-rows (r ∷ []) h = takes-row r (holds-first (longer 0) r [] h)
+takes-rows (r ∷ q ∷ rs) h = takes-alt 1 (reads r) (firstOf (q ∷ rs)) (takes-row r (holds-first (longer 0) r (q ∷ rs) h)) (takes-rows (q ∷ rs) (hold-rest (longer 0) r (q ∷ rs) h))
 
-takes-group : Takes 1 group
-takes-group =
-    let run = takes-bind 12 1 (tag (bytes "#EXT-X-MEDIA")) _ (takes-tag (bytes "#EXT-X-MEDIA")) (λ _. takes-is-not missingByte (bytes "-")) in
-    takes-less 1 13 (omega arith) group (takes-map 13 (λ _. true) _ run)
-
-takes-master : Takes 1 masterTag
-unfolding masterTag
-takes-master =
-    takes-alt 1 _ _ (takes-kind true (bytes "EXT-X-STREAM-INF"))
-    (takes-alt 1 _ _ (takes-kind true (bytes "EXT-X-I-FRAME-STREAM-INF"))
-    (takes-alt 1 _ _ takes-group
-    (takes-named true sessionNames)))
-
-takes-media : Takes 1 mediaTag
-unfolding mediaTag playlistTag segmentTag
-takes-media = takes-alt 1 _ _ (takes-named false playlistNames) (takes-named false segmentNames)
+takes-kind : Takes 1 (alt masterKind mediaKind)
+unfolding masterKind mediaKind playlistKind segmentKind
+takes-kind = takes-alt 1 _ _ (takes-rows masterNames refl) (takes-alt 1 _ _ (takes-rows playlistNames refl) (takes-rows segmentNames refl))
 
 module _ (text : List ℕ) (at : ℕ) (h : at < length text) where
   -- the rest of a line, after what stood before it there
@@ -53,11 +42,11 @@ pub takes-tag-line : Takes 1 isMasterPlaylistTagLine
 unfolding isMasterPlaylistTagLine
 takes-tag-line text at n s e =
     let there = bind-ok _ _ s n e in
-    let w = when-ok (ltb at (length text) && isNoneOf [] (getD text at 0)) missingByte tt (there .0) at (there .1) (there .2) in
+    let w = when-ok (ltb at (length text)) missingByte tt (there .0) at (there .1) (there .2) in
     let hash = runEnd (isOneOf (bytes "\r\n")) text at in
-    let kinds = bind-ok (opt (alt masterTag mediaTag) text hash) _ s n (rw (← w .2) at (there .3)) in
+    let kinds = bind-ok (opt (alt masterKind mediaKind) text hash) _ s n (rw (← w .2) at (there .3)) in
     let line = bind-ok (consumeLine text (kinds .1)) _ s n (kinds .3) in
     let z : line .1 ≡ n = cc (line .3) in
-    let tags = takes-opt 1 _ (takes-alt 1 _ _ takes-master takes-media) text hash (kinds .1) (kinds .0) (kinds .2) in
+    let tags = takes-opt 1 _ takes-kind text hash (kinds .1) (kinds .0) (kinds .2) in
     let past = went-on text at 0 0 hash (kinds .1) (went-run text at (isOneOf (bytes "\r\n"))) tags in
-    rest-takes text at (ltb-true _ _ (and-left _ _ (w .0))) (kinds .1) n (line .0) past (rw z at (line .2))
+    rest-takes text at (ltb-true _ _ (w .0)) (kinds .1) n (line .0) past (rw z at (line .2))

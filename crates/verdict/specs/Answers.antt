@@ -1,6 +1,8 @@
 -- What each answer of the code says, in the words of the rules. Assumes nothing.
+use Prim.Native.Nat.{ℕ}
 use mathlib.Core.Bool.{Bool}
-use Rattle.text.specs.Nom.{Res, fail, ok}
+use mathlib.Core.Option.{Option}
+use Rattle.text.specs.Nom.{Res, fail, ok, orNone}
 use Rattle.text.specs.Answers.{whyOf}
 use Rattle.tables.specs.Refusal.{Answer, refused, given}
 use Rattle.tables.specs.Answers.{refusalOf}
@@ -22,6 +24,10 @@ use Rattle.verdict.specs.Verdict.{Says, nothing, decides, Verdict, maste
 abbrev pub kindRes : KindRes → Res Bool
 kindRes (kindResᵛ.Fail why) = fail (whyOf why)
 kindRes (kindResᵛ.Ok k n) = ok k n
+
+-- and as opt(..) has it, which drops the reason
+abbrev pub optKind : ℕ → KindRes → Res (Option Bool)
+optKind at r = orNone (kindRes r) at
 
 abbrev pub saysOf : saysᵈ.Says → Says
 saysOf saysᵛ.Nothing = nothing

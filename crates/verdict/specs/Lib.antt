@@ -5,3 +5,4 @@ pub mod Calls
 -- what the code's answers say in these words
 pub mod Answers
 pub mod Examples
+pub mod Inside

@@ -1,27 +1,24 @@
 // Line by line, until a tag tells.
+use leaves::util;
 use text::SpanRes;
 use text::Why;
-use text::scan;
-use text::util;
 ghost use mathlib.Core.Path.{_≡_};
-ghost use mathlib.Core.Bool.{true, false};
-ghost use Prim.Native.Nat.{_+_};
-ghost use lib.ListN.{getD};
-ghost use Rattle.text.specs.Why.{missingByte};
-ghost use Rattle.text.specs.Nom.{alt, map};
-ghost use Rattle.text.specs.Nom as nom;
+ghost use mathlib.Core.List.{[], _∷_};
+ghost use Rattle.text.specs.Nom.{opt, alt, map};
 ghost use Rattle.text.specs.Util.{consumeLine};
 ghost use Rattle.verdict.specs.Verdict as rule;
-ghost use Rattle.verdict.specs.Answers.{kindRes, saysOf, lineRes, verdictSeen};
+ghost use Rattle.verdict.specs.Verdict.{fixed, mediaName};
+ghost use Rattle.verdict.specs.Inside.Letters.{HasAt, orRow, found, lettered};
+ghost use Rattle.verdict.specs.Answers.{kindRes, optKind, saysOf, lineRes, verdictSeen};
 
 // A tag's kind (master: true), and the place after it.
-pub enum KindRes {
+enum KindRes {
     Fail(Why),
     Ok(bool, usize),
 }
 
 fn named(text: &[u8], at: usize, name: &[u8], kind: bool) -> KindRes
-    ensures { λ r. ⌜ kindRes r ≡ rule.kind kind (nom.tag (now (name .entry))) (now (text .entry)) at ⌝ }
+    ensures { λ r. ⌜ kindRes r ≡ found (fixed (now (name .entry)) kind ∷ []) (now (text .entry)) at ⌝ }
 {
     if scan::starts_with(text, at, name) {
         KindRes::Ok(kind, at + name.len())
@@ -30,17 +27,26 @@ fn named(text: &[u8], at: usize, name: &[u8], kind: bool) -> KindRes
     }
 }
 
-// Two names of one kind.
-fn either(text: &[u8], at: usize, first: &[u8], second: &[u8], kind: bool) -> KindRes
-    ensures { λ r. ⌜ kindRes r ≡ alt (rule.kind kind (nom.tag (now (first .entry)))) (rule.kind kind (nom.tag (now (second .entry)))) (now (text .entry)) at ⌝ }
-{
-    match named(text, at, first, kind) {
-        KindRes::Ok(same, after) => KindRes::Ok(same, after),
-        KindRes::Fail(_) => named(text, at, second, kind),
+impl KindRes {
+    // This name, where none before it is there.
+    fn or(self, text: &[u8], at: usize, name: &[u8], kind: bool) -> KindRes
+        ensures { λ r. ⌜ kindRes r ≡ orRow (kindRes self) (fixed (now (name .entry)) kind) (now (text .entry)) at ⌝ }
+    {
+        match self {
+            KindRes::Ok(found, after) => KindRes::Ok(found, after),
+            KindRes::Fail(_) => named(text, at, name, kind),
+        }
     }
 }
 
-// Three names of one kind.
+// The first of two names that is there.
+fn either(text: &[u8], at: usize, first: &[u8], kind: bool, second: &[u8], other: bool) -> KindRes
+    ensures { λ r. ⌜ kindRes r ≡ found (fixed (now (first .entry)) kind ∷ fixed (now (second .entry)) other ∷ []) (now (text .entry)) at ⌝ }
+{
+    named(text, at, first, kind).or(text, at, second, other)
+}
+
+// The first of three names of one kind.
 fn one_of_three(
     text: &[u8],
     at: usize,
@@ -49,21 +55,20 @@ fn one_of_three(
     third: &[u8],
     kind: bool,
 ) -> KindRes
-    ensures { λ r. ⌜ kindRes r ≡ alt (rule.kind kind (nom.tag (now (first .entry)))) (alt (rule.kind kind (nom.tag (now (second .entry)))) (rule.kind kind (nom.tag (now (third .entry))))) (now (text .entry)) at ⌝ }
+    ensures { λ r. ⌜ kindRes r ≡ found (fixed (now (first .entry)) kind ∷ fixed (now (second .entry)) kind ∷ fixed (now (third .entry)) kind ∷ []) (now (text .entry)) at ⌝ }
 {
-    match named(text, at, first, kind) {
-        KindRes::Ok(same, after) => KindRes::Ok(same, after),
-        KindRes::Fail(_) => either(text, at, second, third, kind),
-    }
+    either(text, at, first, kind, second, kind).or(text, at, third, kind)
 }
 
 // The run after `#EXT-X-MEDIA` goes to the next `-`, across lines.
 fn group_tag(text: &[u8], at: usize) -> KindRes
-    ensures { λ r. ⌜ kindRes r ≡ map (λ _. true) (nom.preceded (nom.tag (nom.bytes "#EXT-X-MEDIA")) (nom.isNot missingByte (nom.bytes "-"))) (now (text .entry)) at ⌝ }
+    ensures { λ r. ⌜ kindRes r ≡ found (mediaName ∷ []) (now (text .entry)) at ⌝ }
 {
-    if scan::starts_with(text, at, b"#EXT-X-MEDIA") {
-        let dash = scan::until_one(text, at + 12, b'-');
-        if at + 12 < dash {
+    let name = b"#EXT-X-MEDIA";
+    if scan::starts_with(text, at, name) {
+        let after = at + name.len();
+        let dash = scan::until_one(text, after, b'-');
+        if after < dash {
             return KindRes::Ok(true, dash);
         }
         return KindRes::Fail(Why::MissingByte);
@@ -71,28 +76,8 @@ fn group_tag(text: &[u8], at: usize) -> KindRes
     KindRes::Fail(Why::OtherText)
 }
 
-// Those with an `I` and those with an `M`: first of master playlists, then of media playlists.
-fn frames_tag(text: &[u8], at: usize) -> KindRes
-    ensures { λ r. ⌜ kindRes r ≡ alt (rule.kind true (nom.tag (nom.bytes "#EXT-X-I-FRAME-STREAM-INF"))) (rule.kind false (nom.tag (nom.bytes "#EXT-X-I-FRAMES-ONLY"))) (now (text .entry)) at ⌝ }
-{
-    match named(text, at, b"#EXT-X-I-FRAME-STREAM-INF", true) {
-        KindRes::Ok(kind, after) => KindRes::Ok(kind, after),
-        KindRes::Fail(_) => named(text, at, b"#EXT-X-I-FRAMES-ONLY", false),
-    }
-}
-
-fn media_or_map_tag(text: &[u8], at: usize) -> KindRes
-    ensures { λ r. ⌜ kindRes r ≡ alt (map (λ _. true) (nom.preceded (nom.tag (nom.bytes "#EXT-X-MEDIA")) (nom.isNot missingByte (nom.bytes "-")))) (alt (rule.kind false (nom.tag (nom.bytes "#EXT-X-MEDIA-SEQUENCE"))) (rule.kind false (nom.tag (nom.bytes "#EXT-X-MAP")))) (now (text .entry)) at ⌝ }
-{
-    match group_tag(text, at) {
-        KindRes::Ok(kind, after) => KindRes::Ok(kind, after),
-        KindRes::Fail(_) => either(text, at, b"#EXT-X-MEDIA-SEQUENCE", b"#EXT-X-MAP", false),
-    }
-}
-
-// The names with an `S`, of master playlists.
 fn stream_or_session_tag(text: &[u8], at: usize) -> KindRes
-    ensures { λ r. ⌜ kindRes r ≡ alt (rule.kind true (nom.tag (nom.bytes "#EXT-X-STREAM-INF"))) (alt (rule.kind true (nom.tag (nom.bytes "#EXT-X-SESSION-KEY"))) (rule.kind true (nom.tag (nom.bytes "#EXT-X-SESSION-DATA")))) (now (text .entry)) at ⌝ }
+    ensures { λ r. ⌜ kindRes r ≡ lettered "S" (now (text .entry)) at ⌝ }
 {
     one_of_three(
         text,
@@ -104,9 +89,29 @@ fn stream_or_session_tag(text: &[u8], at: usize) -> KindRes
     )
 }
 
-// Those with a `D` and those with a `P`, of media playlists.
+fn frames_tag(text: &[u8], at: usize) -> KindRes
+    ensures { λ r. ⌜ kindRes r ≡ lettered "I" (now (text .entry)) at ⌝ }
+{
+    either(
+        text,
+        at,
+        b"#EXT-X-I-FRAME-STREAM-INF",
+        true,
+        b"#EXT-X-I-FRAMES-ONLY",
+        false,
+    )
+}
+
+fn media_or_map_tag(text: &[u8], at: usize) -> KindRes
+    ensures { λ r. ⌜ kindRes r ≡ lettered "M" (now (text .entry)) at ⌝ }
+{
+    group_tag(text, at)
+        .or(text, at, b"#EXT-X-MEDIA-SEQUENCE", false)
+        .or(text, at, b"#EXT-X-MAP", false)
+}
+
 fn break_or_dates_tag(text: &[u8], at: usize) -> KindRes
-    ensures { λ r. ⌜ kindRes r ≡ alt (rule.kind false (nom.tag (nom.bytes "#EXT-X-DISCONTINUITY-SEQUENCE"))) (alt (rule.kind false (nom.tag (nom.bytes "#EXT-X-DISCONTINUITY"))) (rule.kind false (nom.tag (nom.bytes "#EXT-X-DATERANGE")))) (now (text .entry)) at ⌝ }
+    ensures { λ r. ⌜ kindRes r ≡ lettered "D" (now (text .entry)) at ⌝ }
 {
     one_of_three(
         text,
@@ -119,12 +124,13 @@ fn break_or_dates_tag(text: &[u8], at: usize) -> KindRes
 }
 
 fn type_or_time_tag(text: &[u8], at: usize) -> KindRes
-    ensures { λ r. ⌜ kindRes r ≡ alt (rule.kind false (nom.tag (nom.bytes "#EXT-X-PLAYLIST-TYPE"))) (rule.kind false (nom.tag (nom.bytes "#EXT-X-PROGRAM-DATE-TIME"))) (now (text .entry)) at ⌝ }
+    ensures { λ r. ⌜ kindRes r ≡ lettered "P" (now (text .entry)) at ⌝ }
 {
     either(
         text,
         at,
         b"#EXT-X-PLAYLIST-TYPE",
+        false,
         b"#EXT-X-PROGRAM-DATE-TIME",
         false,
     )
@@ -132,53 +138,32 @@ fn type_or_time_tag(text: &[u8], at: usize) -> KindRes
 
 // The names that begin with `#EXT-X-`: only those of the letter behind it are tried.
 fn lettered_tag(text: &[u8], at: usize) -> KindRes
-    requires { ⌜ (getD (now text) (at + 4) 0 ≡ 73 → ⊥) ⌝ }
-    ensures { λ r. ⌜ kindRes r ≡ alt rule.masterTag rule.mediaTag (now (text .entry)) at ⌝ }
+    requires { ⌜ HasAt 4 "-" (now text) at ⌝ }
+    ensures { λ r. ⌜ optKind at r ≡ opt (alt rule.masterKind rule.mediaKind) (now (text .entry)) at ⌝ }
 {
-    let letter = scan::byte_at(text, at, 7);
-    if letter == b'S' {
-        return stream_or_session_tag(text, at);
+    match scan::byte_at(text, at, 7) {
+        b'S' => stream_or_session_tag(text, at),
+        b'I' => frames_tag(text, at),
+        b'M' => media_or_map_tag(text, at),
+        b'D' => break_or_dates_tag(text, at),
+        b'P' => type_or_time_tag(text, at),
+        b'T' => named(text, at, b"#EXT-X-TARGETDURATION", false),
+        b'E' => named(text, at, b"#EXT-X-ENDLIST", false),
+        b'B' => named(text, at, b"#EXT-X-BYTERANGE", false),
+        b'K' => named(text, at, b"#EXT-X-KEY", false),
+        _ => KindRes::Fail(Why::OtherText),
     }
-    if letter == b'I' {
-        return frames_tag(text, at);
-    }
-    if letter == b'M' {
-        return media_or_map_tag(text, at);
-    }
-    if letter == b'D' {
-        return break_or_dates_tag(text, at);
-    }
-    if letter == b'P' {
-        return type_or_time_tag(text, at);
-    }
-    if letter == b'T' {
-        return named(text, at, b"#EXT-X-TARGETDURATION", false);
-    }
-    if letter == b'E' {
-        return named(text, at, b"#EXT-X-ENDLIST", false);
-    }
-    if letter == b'B' {
-        return named(text, at, b"#EXT-X-BYTERANGE", false);
-    }
-    if letter == b'K' {
-        return named(text, at, b"#EXT-X-KEY", false);
-    }
-    KindRes::Fail(Why::OtherText)
 }
 
-// Most lines are no tags, so the first byte is tried before eighteen names; and `#EXTINF` is told from the others by its `I`.
+// At place 4 `#EXTINF` has an `I` and the others have a `-`; most lines are no tags, and have another byte there.
 fn tag_kind(text: &[u8], at: usize) -> KindRes
-    ensures { λ r. ⌜ kindRes r ≡ alt rule.masterTag rule.mediaTag (now (text .entry)) at ⌝ }
+    ensures { λ r. ⌜ optKind at r ≡ opt (alt rule.masterKind rule.mediaKind) (now (text .entry)) at ⌝ }
 {
-    if at < text.len() {
-        if text[at] != b'#' {
-            return KindRes::Fail(Why::OtherText);
-        }
+    match scan::byte_at(text, at, 4) {
+        b'I' => named(text, at, b"#EXTINF", false),
+        b'-' => lettered_tag(text, at),
+        _ => KindRes::Fail(Why::OtherText),
     }
-    if scan::byte_at(text, at, 4) == b'I' {
-        return named(text, at, b"#EXTINF", false);
-    }
-    lettered_tag(text, at)
 }
 
 // What a line says, with the place of its `#`.

@@ -1,5 +1,7 @@
 //! The library's calls (include/ledgerfern.h), with tables that are lent once.
 
+use crate::layout::{CLIP_WORDS, TAG_WORDS};
+
 #[repr(C)]
 #[derive(Clone, Copy)]
 pub struct Head([u64; 11]);
@@ -51,7 +53,7 @@ pub struct Tables {
 impl Tables {
     /// No text has more clips than half its bytes, nor more unknown tags than a seventh.
     pub fn for_text(text: &[u8]) -> Tables {
-        Tables { clips: vec![0; 17 * (text.len() / 2 + 1)], tags: vec![0; 4 * (text.len() / 7 + 1)] }
+        Tables { clips: vec![0; CLIP_WORDS * (text.len() / 2 + 1)], tags: vec![0; TAG_WORDS * (text.len() / 7 + 1)] }
     }
 
     pub fn read(&mut self, text: &[u8]) -> Read {

@@ -10,6 +10,8 @@ use m3u8_rs::{is_master_playlist, parse_media_playlist};
 use std::time::{Duration, Instant};
 use std::{mem, ptr};
 
+#[allow(dead_code)]
+mod layout; // bindings/rust/src/layout.rs, which tools/bench puts here
 mod ledgerfern;
 mod texts;
 

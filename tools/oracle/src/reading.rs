@@ -33,7 +33,13 @@ pub const END_LIST: usize = 8;
 pub const I_FRAMES_ONLY: usize = 9;
 pub const INDEPENDENT: usize = 10;
 
-/// 01's clip record: seventeen words.
+/// 01's clip record, and the record of an unknown tag.
+pub const CLIP_WORDS: usize = 17;
+pub const TAG_WORDS: usize = 4;
+pub type ClipRecord = [u64; CLIP_WORDS];
+pub type TagRecord = [u64; TAG_WORDS];
+
+/// Where a clip's words stand.
 pub const URI: usize = 0;
 pub const NS: usize = 2;
 pub const BITS: usize = 3;
@@ -56,8 +62,8 @@ pub const HAS_MAP_OFFSET: u64 = 32;
 #[derive(Default)]
 pub struct Reading {
     pub head: [u64; 11],
-    pub clips: Vec<[u64; 17]>,
-    pub tags: Vec<[u64; 4]>,
+    pub clips: Vec<ClipRecord>,
+    pub tags: Vec<TagRecord>,
     pub stop: usize,
 }
 
@@ -107,7 +113,7 @@ pub fn read(text: &[u8]) -> Result<Reading, Refusal> {
         return refuse(4, place);
     }
     let mut reading = Reading::default();
-    let mut clip = [0; 17];
+    let mut clip = [0; CLIP_WORDS];
     let mut tags = Vec::new();
     let mut at = past(text, b"#EXTM3U".len(), multispace0);
     loop {
@@ -170,7 +176,7 @@ pub fn read(text: &[u8]) -> Result<Reading, Refusal> {
                 clip[TAGS] = tags.len() as u64;
                 reading.clips.push(clip);
                 reading.tags.append(&mut tags);
-                clip = [0; 17];
+                clip = [0; CLIP_WORDS];
             }
             left_out => panic!("{:?} in {}", left_out, shown(text)),
         }
@@ -187,7 +193,7 @@ fn extinf(
     after: usize,
     duration: f32,
     title: Option<String>,
-    clip: &mut [u64; 17],
+    clip: &mut ClipRecord,
 ) -> Result<(), Refusal> {
     let digits = at + b"#EXTINF:".len();
     let comma = past(text, digits, float);
@@ -232,7 +238,7 @@ fn last_quoted(text: &[u8], list: usize, name: &str) -> (usize, usize) {
 }
 
 /// A range's two words and flags; of an earlier range nothing is left.
-fn set_range(clip: &mut [u64; 17], word: usize, has_range: u64, has_offset: u64, range: Option<ByteRange>) {
+fn set_range(clip: &mut ClipRecord, word: usize, has_range: u64, has_offset: u64, range: Option<ByteRange>) {
     clip[FLAGS] &= !(has_range | has_offset);
     clip[word..][..2].copy_from_slice(&[0, 0]);
     if let Some(range) = range {

@@ -1,6 +1,6 @@
 //! The probe's records in, the probe's lines out, for its ops 1, 2 and 3.
 
-use crate::reading::{read, verdict, Reading, Refusal};
+use crate::reading::{read, verdict, Reading, Refusal, CLIP_WORDS, TAG_WORDS};
 use crate::same;
 use crate::writing::{write_line, Asked};
 use std::io::{stdin, stdout, BufReader, BufWriter, ErrorKind, Read, Write};
@@ -67,10 +67,10 @@ fn read_line(text: &[u8], mut clips: Vec<u64>, mut tags: Vec<u64>) -> String {
         Ok(reading) => (Refusal { number: 0, place: 0 }, reading),
         Err(refusal) => (refusal, Reading::default()),
     };
-    for (words, clip) in clips.chunks_exact_mut(17).zip(&reading.clips) {
+    for (words, clip) in clips.chunks_exact_mut(CLIP_WORDS).zip(&reading.clips) {
         words.copy_from_slice(clip);
     }
-    for (words, tag) in tags.chunks_exact_mut(4).zip(&reading.tags) {
+    for (words, tag) in tags.chunks_exact_mut(TAG_WORDS).zip(&reading.tags) {
         words.copy_from_slice(tag);
     }
     let mut line = format!(
@@ -96,10 +96,10 @@ fn read_line(text: &[u8], mut clips: Vec<u64>, mut tags: Vec<u64>) -> String {
 /// Refusals 7 and 8, on a reading that the crate's public call confirms.
 fn fit(text: &[u8], reading: Reading, clip_words: usize, tag_words: usize) -> Result<Reading, Refusal> {
     same::check(text, &reading);
-    if 17 * reading.clips.len() > clip_words {
+    if CLIP_WORDS * reading.clips.len() > clip_words {
         return Err(Refusal { number: 7, place: 0 });
     }
-    if 4 * reading.tags.len() > tag_words {
+    if TAG_WORDS * reading.tags.len() > tag_words {
         return Err(Refusal { number: 8, place: 0 });
     }
     Ok(reading)

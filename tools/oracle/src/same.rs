@@ -38,7 +38,7 @@ fn playlist(text: &[u8], reading: &Reading) -> MediaPlaylist {
     }
 }
 
-fn segment(text: &[u8], clip: &[u64; 17], tags: &[[u64; 4]]) -> MediaSegment {
+fn segment(text: &[u8], clip: &ClipRecord, tags: &[TagRecord]) -> MediaSegment {
     let flag = |flag| clip[FLAGS] & flag;
     let range = |word: usize, has_range, has_offset| {
         some(flag(has_range), ByteRange { length: clip[word], offset: some(flag(has_offset), clip[word + 1]) })

@@ -3,7 +3,7 @@
 
 use crate::parse_media_playlist;
 use crate::playlist::MediaPlaylist;
-use crate::reading::{read, shown, NS};
+use crate::reading::{read, shown, CLIP_WORDS, NS, TAG_WORDS};
 
 /// What op 3 hands in.
 pub struct Asked {
@@ -40,8 +40,8 @@ fn written(asked: &Asked) -> Vec<u8> {
     assert_eq!(asked.head, reading.head, "{}", shown(text));
     assert_eq!(asked.clip_count, reading.clips.len() as u64, "{}", shown(text));
     assert_eq!(asked.tag_count, reading.tags.len() as u64, "{}", shown(text));
-    assert_eq!(asked.clips[..17 * reading.clips.len()], reading.clips.concat(), "{}", shown(text));
-    assert_eq!(asked.tags[..4 * reading.tags.len()], reading.tags.concat(), "{}", shown(text));
+    assert_eq!(asked.clips[..CLIP_WORDS * reading.clips.len()], reading.clips.concat(), "{}", shown(text));
+    assert_eq!(asked.tags[..TAG_WORDS * reading.tags.len()], reading.tags.concat(), "{}", shown(text));
     let (_, list) = parse_media_playlist(text).expect("it was read");
 
     // The segments' texts stand between the head's lines and ENDLIST.

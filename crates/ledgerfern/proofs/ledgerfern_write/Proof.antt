@@ -1,10 +1,7 @@
 -- `ledgerfern_write`: by whether the numbers are a head's; then the numbers of what the library's call ensures, and its output. Assumes nothing.
 use mathlib.Core.Path.{sym, _∙_, ap}
 use borrow.Author.Needs.{needs}
-use denote.Ref.{now}
-use lib.ListN.{length}
 use Rattle.ledgerfern.specs.Answers.{headRes}
-use Rattle.ledgerfern.specs.Numbers.{writtenNumbers}
 use Rattle.ledgerfern.proofs.Writes.{no-head, a-head}
 use Rattle.ledgerfern.proofs.ledgerfern_write.Statement.{statement}
 use Rattle.ledgerfern.proofs.ledgerfern_write.Tie as tie
@@ -30,17 +27,18 @@ of-written-requires c κs = search needs
 returns : tie.Need-returns
 returns c =
     let none-there = sym (c .before .before .before .head-of .ensures) ∙ ap headRes (c .before .enum-told .given .1) in
-    let a = c .before .before .before .before .before .before .before .before .args in
-    no-head none-there (c .of-no-head .ensures (now (a .clips)) (a .clip-count) (now (a .tags)) (a .tag-count) (length (now (a .out))))
+    no-head none-there (c .of-no-head .ensures)
 
 same-length : tie.Need-same-length
 same-length c = search needs
 
 returns-2 : tie.Need-returns-2
 returns-2 c =
-    let there = sym (c .before .before .before .before .before .before .before .before .head-of .ensures) ∙ ap headRes (c .before .before .before .before .before .before .h .given .1) in
-    let p = c .before .before .before .write-to .ensures in
-    a-head there (c .of-written .ensures ∙ ap writtenNumbers (p .answered)) (p .out-after)
+    let wrote = c .before .before .before in
+    let is = wrote .before .before .before in
+    let there = sym (is .before .before .head-of .ensures) ∙ ap headRes (is .h .given .1) in
+    let p = wrote .write-to .ensures in
+    a-head there (c .of-written .ensures) (p .answered) (p .out-after)
 
 pub ledgerfern-write-spec : {M : Type 1} → statement M
 ledgerfern-write-spec =

@@ -10,8 +10,8 @@ use Rattle.tags.proofs.marked.Tie as tie
 starts-with-requires : tie.Need-starts-with-requires
 starts-with-requires c κs = search needs
 
-add-t8 : tie.Need-add-t8
-add-t8 c = omega (arith, tagged-below _ _ _ (2 ^ 64 - 1) (omega arith) (omega arith) (sym (c .before .starts-with .ensures) ∙ c .if1 .taken))
+add-after : tie.Need-add-after
+add-after c = omega (arith, tagged-below _ _ _ (2 ^ 64 - 1) (omega arith) (omega arith) (sym (c .before .starts-with .ensures) ∙ c .if1 .taken))
 
 returns : tie.Need-returns
 returns c = rw (sym (c .before .starts-with .ensures) ∙ c .if1 .taken)
@@ -20,4 +20,4 @@ returns-2 : tie.Need-returns-2
 returns-2 c = rw (sym (c .before .starts-with .ensures) ∙ c .if1 .left)
 
 pub marked-spec : {M : Type 1} → statement M
-marked-spec = tie.close (tie.spec starts-with-requires add-t8 returns returns-2)
+marked-spec = tie.close (tie.spec starts-with-requires add-after returns returns-2)

@@ -1,80 +1,88 @@
--- `ext_map::extmap`: the rule by what the list has under two names (`map-by-two`), then the cases. Assumes nothing.
+-- `ext_map::extmap`: the rule by what is held under two names (`map-by-held`), then the cases of the first. Assumes nothing.
 use borrow.Author.Needs.{needs}
+use native.Mathlib.Omega.{arith}
 use mathlib.Core.Path.{_≡_, ap}
 use denote.Ref.{now}
-use Rattle.text.specs.Nom.{ok, span, bind}
-use Rattle.text.specs.Answers.{spanOf}
-use Rattle.attributes.specs.ExtMap.{extMap, extmap}
-use Rattle.attributes.specs.Answers.{valueOf, attrOf, rangeRes}
-use Rattle.attributes.proofs.Walk.{map-by-two}
+use Rattle.attributes.specs.ExtMap.{extmap}
+use Rattle.attributes.specs.Answers.{valueOf, attrOf}
+use Rattle.attributes.proofs.Walk.{mapped, map-by-held}
 use Rattle.attributes.proofs.ext_map.extmap.Statement.{statement}
 use Rattle.attributes.proofs.ext_map.extmap.Tie as tie
 
-slice-aggregate-last-two : tie.Need-slice-aggregate-last-two
-slice-aggregate-last-two c = search needs
+slice-aggregate-last-of-each : tie.Need-slice-aggregate-last-of-each
+slice-aggregate-last-of-each c = search needs
 
-slice-aggregate-last-two-2 : tie.Need-slice-aggregate-last-two-2
-slice-aggregate-last-two-2 c = search needs
+slice-aggregate-last-of-each-2 : tie.Need-slice-aggregate-last-of-each-2
+slice-aggregate-last-of-each-2 c = search needs
 
-last-two-requires : tie.Need-last-two-requires
-last-two-requires c κs = search needs
+last-of-each-requires : tie.Need-last-of-each-requires
+last-of-each-requires c κs = search needs
 
-enum-told : tie.Need-enum-told
-enum-told c = search needs
+slice-aggregate-attr-at : tie.Need-slice-aggregate-attr-at
+slice-aggregate-attr-at c = search needs
+
+attr-at-requires : tie.Need-attr-at-requires
+attr-at-requires c κs = search needs
+
+slice-aggregate-attr-at-2 : tie.Need-slice-aggregate-attr-at-2
+slice-aggregate-attr-at-2 c = search needs
+
+attr-at-requires-2 : tie.Need-attr-at-requires-2
+attr-at-requires-2 c κs = search needs
 
 enum-known-uri : tie.Need-enum-known-uri
 enum-known-uri c = search needs
 
-enum-told-2 : tie.Need-enum-told-2
-enum-told-2 c = search needs
+enum-told : tie.Need-enum-told
+enum-told c = search needs
+
+-- the rule, by the two attributes that were read
+walked : (c : tie.After-attr-at2) →
+    let t = c .before .before .before .before .before in
+    let a = t .before .before .before .before .args in
+    let uri = attrOf (c .before .before .attr-at .result) in
+    extmap (now (a .text)) (a .at) ≡ mapped (now (a .text)) (a .at) uri (attrOf (c .attr-at2 .result)) (t .last-of-each .result)
+walked c =
+    let u = c .before .before in
+    map-by-held _ _ _ _ (u .before .before .before .last-of-each .ensures) (omega arith) (u .attr-at .ensures) (c .attr-at2 .ensures)
+
+returns : tie.Need-returns
+returns c = rw (walked (c .before .before), ap attrOf (c .enum-told .given .1))
 
 enum-known-value : tie.Need-enum-known-value
 enum-known-value c = search needs
 
-byte-range-requires : tie.Need-byte-range-requires
-byte-range-requires c κs = search needs
-
-enum-known-byte-range : tie.Need-enum-known-byte-range
-enum-known-byte-range c = search needs
-
-enum-known-why : tie.Need-enum-known-why
-enum-known-why c = search needs
-
-returns : tie.Need-returns
-returns c = rw (map-by-two _ _ _ (c .before .before .last-two .ensures), ap attrOf (c .enum-told .given .1))
+enum-told-2 : tie.Need-enum-told-2
+enum-told-2 c = search needs
 
 returns-2 : tie.Need-returns-2
-returns-2 c = let u = c .before .before .before in rw (map-by-two _ _ _ (u .before .before .last-two .ensures), ap attrOf (u .uri .given .1), ap valueOf (c .enum-told2 .given .1))
+returns-2 c = let u = c .before .before .before in rw (walked (u .before .before), ap attrOf (u .uri .given .1), ap valueOf (c .enum-told2 .given .1))
 
--- a URI in quotes is there: what is left is the byte range
-has-uri : (c : tie.After-byte-range) →
-    let t = c .before .before .before .before .before .before .before in
-    let a = t .before .before .before .before .args in
-    let end = t .last-two .result .end in
-    extmap (now (a .text)) (a .at) ≡ bind (rangeRes (c .byte-range .result) end) (λ r n. ok (extMap (spanOf (c .before .before .value .given .0 .0)) r (span (a .at) end)) n)
-has-uri c = let u = c .before .before .before .before .before in rw (map-by-two _ _ _ (u .before .before .last-two .ensures), ap attrOf (u .uri .given .1), ap valueOf (c .before .before .value .given .1), ← c .byte-range .ensures)
+with-range-requires : tie.Need-with-range-requires
+with-range-requires c κs = search needs
 
 returns-3 : tie.Need-returns-3
-returns-3 c = rw (has-uri (c .before .before .before), c .before .byte-range2 .given .1)
-
-returns-4 : tie.Need-returns-4
-returns-4 c = rw (has-uri (c .before .before .before), c .before .why .given .1)
+returns-3 c =
+    let v = c .before .before in
+    let u = v .before .before .before in
+    rw (walked (u .before .before), ap attrOf (u .uri .given .1), ap valueOf (v .value .given .1)) (c .with-range .ensures)
 
 pub extmap-spec : {M : Type 1} → statement M
 extmap-spec =
     tie.close
     (tie.spec
-    slice-aggregate-last-two
-    slice-aggregate-last-two-2
-    last-two-requires
-    enum-told
+    slice-aggregate-last-of-each
+    slice-aggregate-last-of-each-2
+    last-of-each-requires
+    slice-aggregate-attr-at
+    attr-at-requires
+    slice-aggregate-attr-at-2
+    attr-at-requires-2
     enum-known-uri
-    enum-told-2
-    enum-known-value
-    byte-range-requires
-    enum-known-byte-range
-    enum-known-why
+    enum-told
     returns
+    enum-known-value
+    enum-told-2
     returns-2
-    returns-3
-    returns-4)
+    with-range-requires
+    returns-3)

@@ -29,16 +29,18 @@ mark-requires-3 c κs = search needs
 
 returns : tie.Need-returns
 returns c =
-    let a = c .before .before .before .before .before .before .before .before in
+    let typed = c .before .before .before in
+    let numbered = typed .before .before .before in
+    let h = numbered .before .before .args .h in
     λ i. record {
-      «version_present» = c .before .before .before .before .before .before .before .version-present .ensures i;
-      version = c .before .before .before .before .before .before .version-number .ensures i;
-      «target_duration» = a .args .h .«target_duration»;
-      «media_sequence» = a .args .h .«media_sequence»;
-      «discontinuity_sequence» = a .args .h .«discontinuity_sequence»;
-      «playlist_type» = c .before .before .before .before .before .type-number .ensures i;
-      «type_start» = c .before .before .before .before .type-start .ensures i;
-      «type_end» = c .before .before .before .type-end .ensures i;
+      «version_present» = numbered .before .version-present .ensures i;
+      version = numbered .version-number .ensures i;
+      «target_duration» = h .«target_duration»;
+      «media_sequence» = h .«media_sequence»;
+      «discontinuity_sequence» = h .«discontinuity_sequence»;
+      «playlist_type» = typed .before .before .type-number .ensures i;
+      «type_start» = typed .before .type-start .ensures i;
+      «type_end» = typed .type-end .ensures i;
       «end_list» = c .before .before .mark .ensures i;
       «i_frames_only» = c .before .mark2 .ensures i;
       «independent_segments» = c .mark3 .ensures i;

@@ -11,13 +11,13 @@ of-written-requires : tie.Need-of-written-requires
 of-written-requires c κs = search needs
 
 returns : tie.Need-returns
-returns c clips n tags m room = rw (lt-leb (length (now (c .before .before .before .args .text))) textLimit (search needs)) (c .of-written .ensures)
+returns c = rw (lt-leb (length (now (c .before .before .before .args .text))) textLimit (search needs)) (c .of-written .ensures)
 
 of-written-requires-2 : tie.Need-of-written-requires-2
 of-written-requires-2 c κs = search needs
 
 returns-2 : tie.Need-returns-2
-returns-2 c clips n tags m room = rw (le-leb (length (now (c .before .before .before .args .text))) textLimit (search needs)) (c .of-written2 .ensures)
+returns-2 c = rw (le-leb (length (now (c .before .before .before .args .text))) textLimit (search needs)) (c .of-written2 .ensures)
 
 pub of-no-head-spec : {M : Type 1} → statement M
 of-no-head-spec = tie.close (tie.spec of-written-requires returns of-written-requires-2 returns-2)

@@ -5,7 +5,7 @@ use borrow.Author.Needs.{needs}
 use denote.Ref.{now}
 use Rattle.text.specs.Nom.{ok}
 use Rattle.text.specs.Util.{fits, large, parsed}
-use Rattle.text.specs.Answers.{parsedOf}
+use Rattle.leaves.specs.Answers.{parsedOf}
 use Rattle.text.proofs.Takes.{takes-parsed}
 use Rattle.lengths.proofs.Kept.{counted-parsed}
 use Rattle.lengths.proofs.duration.counted.Statement.{statement}

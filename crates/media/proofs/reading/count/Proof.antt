@@ -8,29 +8,32 @@ use mathlib.Core.Path.{_≡_, refl, sym, _∙_, ap}
 use mathlib.Core.List.{List}
 use denote.Ref.{now}
 use Rattle.tables.specs.Refusal.{given}
-use Rattle.tags.specs.Tags.{ofHead}
+use Rattle.tags.specs.Tags.{ofHead, step}
 use Rattle.tags.specs.Answers.{headTagOf}
+use Rattle.tags.proofs.Takes.{takes-step}
+use Rattle.assembly.specs.Assembly.{State, begin, headNext, next, countsAfter, headOf, countsOf}
+use Rattle.assembly.specs.Answers.{headSeen}
+use Rattle.assembly.proofs.Parts.{head-next, counts-next}
 use Rattle.media.specs.declared.reading.CountStep.{CountStep}
 use Rattle.media.specs.declared.reading.CountStep.the-variants as stepᵛ
-use Rattle.media.specs.Assembly.{State, begin, headNext, next, headOf, countsOf}
-use Rattle.media.specs.Answers.{headSeen, countsSeen, countSays}
-use Rattle.media.proofs.Parts.{head-next}
-use Rattle.media.proofs.Passes.{TookTo, took-less, within-counts, Counting, counting-starts, counting-ends, counting-goes-on, counting-refuses}
+use Rattle.media.specs.Calls as calls
+use Rattle.media.specs.Inside.Passes.{countsSeen, countSays}
+use Rattle.media.proofs.Passes.{TookTo, took-less, within-counts, CountsOn, count-starts, count-ends, count-goes-on, count-refuses}
 use Rattle.media.proofs.reading.count.Statement.{statement}
 use Rattle.media.proofs.reading.count.Tie as tie
 
 abbrev Inv-loop : tie.InvT-loop
-Inv-loop text at c₀ head₀ c head = (s : State) × Counting text at (c .at) s × (headSeen head ≡ headOf s) × (countsSeen c ≡ countsOf s)
+Inv-loop text at c₀ head₀ c head = (s : State) × CountsOn step text (c .at) s × (headSeen head ≡ headOf s) × (countsSeen c ≡ countsOf s)
 
 abbrev μ-loop : tie.MeasureT-loop
 μ-loop text at c₀ head₀ c head = length text - c .at
 
 -- ---- a turn: its text, what its step says, and where that goes
 abbrev read : tie.At-loop Inv-loop μ-loop → List ℕ
-read l = now (l .before .before .before .before .args .text)
+read l = now (l .before .before .before .before .before .args .text)
 
 abbrev Said : tie.At-loop Inv-loop μ-loop → CountStep → Type 0
-Said l r = countSays r (l .loop .c) (read l)
+Said l r = countSays step r (l .loop .c) (read l)
 
 abbrev turn-next : tie.After-next Inv-loop μ-loop → tie.At-loop Inv-loop μ-loop
 turn-next c = c .before .before .before
@@ -38,7 +41,7 @@ turn-next c = c .before .before .before
 said-next : (c : tie.After-next Inv-loop μ-loop) → Said (turn-next c) (stepᵛ.Next (c .next .given .0 .0))
 said-next c = rw (c .next .given .1) at (c .before .before .step .ensures)
 
-took-next : (c : tie.After-next Inv-loop μ-loop) → TookTo (read (turn-next c)) (turn-next c .loop .c .at) (said-next c .0) (c .next .given .0 .0 .at)
+took-next : (c : tie.After-next Inv-loop μ-loop) → TookTo step (read (turn-next c)) (turn-next c .loop .c .at) (said-next c .0) (c .next .given .0 .0 .at)
 took-next c = record { taken = said-next c .1 }
 
 abbrev turn-told : tie.After-t Inv-loop μ-loop → tie.At-loop Inv-loop μ-loop
@@ -47,10 +50,13 @@ turn-told c = c .before .before .before
 said-told : (c : tie.After-t Inv-loop μ-loop) → Said (turn-told c) (stepᵛ.Told (c .t .given .0 .0) (c .t .given .0 .1 .0))
 said-told c = rw (c .t .given .1) at (c .before .before .step .ensures)
 
-took-told : (c : tie.After-t Inv-loop μ-loop) → TookTo (read (turn-told c)) (turn-told c .loop .c .at) (ofHead (headTagOf (c .t .given .0 .0))) (c .t .given .0 .1 .0 .at)
+took-told : (c : tie.After-t Inv-loop μ-loop) → TookTo step (read (turn-told c)) (turn-told c .loop .c .at) (ofHead (headTagOf (c .t .given .0 .0))) (c .t .given .0 .1 .0 .at)
 took-told c = record { taken = said-told c .0 }
 
 -- ---- the needs
+first-step-requires : tie.Need-first-step-requires Inv-loop μ-loop
+first-step-requires c κs = search needs
+
 new-requires : tie.Need-new-requires Inv-loop μ-loop
 new-requires c κs = search needs
 
@@ -60,7 +66,7 @@ empty-requires c κs = search needs
 loop-holds : tie.Need-loop-holds Inv-loop μ-loop
 loop-holds c =
     let made = c .before .new .ensures in
-    (begin, counting-starts (made .1) (c .before .before .before .pre), c .empty .ensures, made .0)
+    (begin, count-starts step (made .0 ∙ c .before .before .first-step .ensures), c .empty .ensures, made .1)
 
 step-requires : tie.Need-step-requires Inv-loop μ-loop
 step-requires c κs = let i = c .loop .inv in within-counts (i .1 .within) (i .3)
@@ -77,7 +83,9 @@ returns c =
     let l = d .before in
     let said : Said l stepᵛ.Stop = rw (c .before .enum-told .given .1) at (d .step .ensures) in
     let i = l .loop .inv in
-    ap given (c .read .ensures (i .0) (i .2) (i .3)) ∙ counting-ends (i .1) (said .0) (said .1)
+    let same : _≡_ {A = calls.Read} (calls.read (headSeen (l .loop .head)) (l .loop .c .clips) (l .loop .c .first) (l .loop .c .at)) (calls.readFrom (i .0) (l .loop .c .at)) =
+    λ j. calls.read (i .2 j) (i .3 j .clips) (i .3 j .kept) (l .loop .c .at) in
+    ap given (c .read .ensures ∙ same) ∙ count-ends takes-step (i .1) (said .0) (said .1)
 
 enum-known-r : tie.Need-enum-known-r Inv-loop μ-loop
 enum-known-r c = search needs
@@ -87,19 +95,24 @@ returns-2 c =
     let d = c .before .before .before in
     let l = d .before in
     let said : Said l (stepᵛ.Refused (c .before .r .given .0 .0)) = rw (c .before .r .given .1) at (d .step .ensures) in
-    counting-refuses (l .loop .inv .1) (record { taken = said .2 }) _ (said .3)
+    count-refuses takes-step (l .loop .inv .1) (record { taken = said .2 }) _ (said .3)
 
 enum-known-next : tie.Need-enum-known-next Inv-loop μ-loop
 enum-known-next c = search needs
 
 loop-less : tie.Need-loop-less Inv-loop μ-loop
-loop-less c = took-less (took-next (c .before))
+loop-less c = took-less takes-step (took-next (c .before))
 
 loop-again : tie.Need-loop-again Inv-loop μ-loop
 loop-again c =
     let i = turn-next (c .before) .loop .inv in
     let said = said-next (c .before) in
-    (next (i .0) (said .0), counting-goes-on (i .1) (took-next (c .before)) (said .2), i .2 ∙ sym (said .3 (i .0)), said .4 (i .0) (i .3))
+    let t = said .0 in (
+      next (i .0) t,
+      count-goes-on takes-step (i .1) (took-next (c .before)) (said .3),
+      i .2 ∙ sym (said .4 (headOf (i .0))) ∙ sym (head-next (i .0) t),
+      said .2 ∙ ap (λ x. countsAfter x t) (i .3) ∙ sym (counts-next (i .0) t),
+    )
 
 enum-known-t : tie.Need-enum-known-t Inv-loop μ-loop
 enum-known-t c = search needs
@@ -108,7 +121,7 @@ next-requires : tie.Need-next-requires Inv-loop μ-loop
 next-requires c κs = search needs
 
 loop-less-2 : tie.Need-loop-less-2 Inv-loop μ-loop
-loop-less-2 c = took-less (took-told (c .before .before))
+loop-less-2 c = took-less takes-step (took-told (c .before .before))
 
 loop-again-2 : tie.Need-loop-again-2 Inv-loop μ-loop
 loop-again-2 c =
@@ -116,7 +129,7 @@ loop-again-2 c =
     let i = turn-told t .loop .inv in
     let h = headTagOf (t .t .given .0 .0) in
     let told = c .next2 .ensures ∙ ap (λ x. headNext x h) (i .2) ∙ sym (head-next (i .0) (ofHead h)) in
-    (next (i .0) (ofHead h), counting-goes-on (i .1) (took-told t) refl, told, said-told t .1 (i .0) (i .3))
+    (next (i .0) (ofHead h), count-goes-on takes-step (i .1) (took-told t) refl, told, said-told t .1 ∙ i .3 ∙ sym (counts-next (i .0) (ofHead h)))
 
 pub count-spec : {M : Type 1} → statement M
 count-spec =
@@ -124,6 +137,7 @@ count-spec =
     (tie.spec
     Inv-loop
     μ-loop
+    first-step-requires
     new-requires
     empty-requires
     loop-holds

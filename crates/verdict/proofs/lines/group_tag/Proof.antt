@@ -1,45 +1,42 @@
--- `lines::group_tag`: the tag, then its run (`group-here`, `group-no-run`, `group-no-tag`). Assumes nothing.
-use mathlib.Core.Path.{sym, _∙_}
+-- `lines::group_tag`: the text, then the run behind it (`undashed-here`, `undashed-not`, `row-not`). Assumes nothing.
+use mathlib.Core.Path.{_≡_, sym, _∙_}
+use mathlib.Core.Bool.{true}
 use native.Mathlib.Omega.{arith}
+use Rattle.text.specs.Nom.{tagged}
 use Rattle.text.proofs.Laws.{tagged-within}
-use Rattle.verdict.proofs.Tags.{group-no-tag, group-no-run, group-here}
+use Rattle.verdict.specs.Verdict.{literal, mediaName}
+use Rattle.verdict.specs.Inside.Letters.{orRow}
+use Rattle.verdict.proofs.Rows.{row-not, undashed-not, undashed-here}
 use borrow.Author.Needs.{needs}
 use Rattle.verdict.proofs.lines.group_tag.Statement.{statement}
 use Rattle.verdict.proofs.lines.group_tag.Tie as tie
 
-slice-aggregate-starts-with : tie.Need-slice-aggregate-starts-with
-slice-aggregate-starts-with c = search needs
+-- the text is there
+there : (c : tie.Then1) → let a = c .before .before .before .before .before .args in tagged (literal mediaName) (a .text .now) (a .at) ≡ true
+there c = sym (c .before .starts-with .ensures) ∙ c .if1 .taken
 
 starts-with-requires : tie.Need-starts-with-requires
 starts-with-requires c κs = search needs
 
-add-until-one : tie.Need-add-until-one
-add-until-one c = omega (arith, tagged-within _ _ _ (omega arith) (sym (c .before .starts-with .ensures) ∙ c .if1 .taken))
+add-after : tie.Need-add-after
+add-after c = omega (arith, tagged-within _ _ _ (omega arith) (there c))
 
 until-one-requires : tie.Need-until-one-requires
 until-one-requires c κs = search needs
 
-add-if2 : tie.Need-add-if2
-add-if2 c = omega (arith, tagged-within _ _ _ (omega arith) (sym (c .before .before .starts-with .ensures) ∙ c .before .if1 .taken))
-
 returns : tie.Need-returns
-returns c = let t = c .before .before in sym (group-here _ _ _ (sym (t .before .starts-with .ensures) ∙ t .if1 .taken) (c .before .until-one .ensures) (c .if2 .taken))
+unfolding orRow
+returns c = sym (undashed-here _ _ _ _ _ (there (c .before .before)) (c .before .until-one .ensures) (c .if2 .taken))
 
 returns-2 : tie.Need-returns-2
-returns-2 c = let t = c .before .before in sym (group-no-run _ _ _ (sym (t .before .starts-with .ensures) ∙ t .if1 .taken) (c .before .until-one .ensures) (c .if2 .left))
+unfolding orRow
+returns-2 c = sym (undashed-not _ _ _ _ _ (there (c .before .before)) (c .before .until-one .ensures) (c .if2 .left))
 
 returns-3 : tie.Need-returns-3
-returns-3 c = sym (group-no-tag _ _ (sym (c .before .starts-with .ensures) ∙ c .if1 .left))
+unfolding orRow
+returns-3 c = sym (row-not _ _ mediaName (sym (c .before .starts-with .ensures) ∙ c .if1 .left))
 
 pub group-tag-spec : {M : Type 1} → statement M
 group-tag-spec =
     tie.close
-    (tie.spec
-    slice-aggregate-starts-with
-    starts-with-requires
-    add-until-one
-    until-one-requires
-    add-if2
-    returns
-    returns-2
-    returns-3)
+    (tie.spec starts-with-requires add-after until-one-requires returns returns-2 returns-3)

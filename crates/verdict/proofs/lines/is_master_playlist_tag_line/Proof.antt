@@ -2,7 +2,7 @@
 use mathlib.Core.Path.{sym, _∙_, ap}
 use borrow.Author.Tests.{lt-ltb, le-ltb}
 use Rattle.verdict.specs.Verdict.{isMasterPlaylistTagLine}
-use Rattle.verdict.specs.Answers.{kindRes}
+use Rattle.verdict.specs.Answers.{optKind}
 use borrow.Author.Needs.{needs}
 use Rattle.verdict.proofs.lines.is_master_playlist_tag_line.Statement.{statement}
 use Rattle.verdict.proofs.lines.is_master_playlist_tag_line.Tie as tie
@@ -36,14 +36,14 @@ returns-2 : tie.Need-returns-2
 unfolding isMasterPlaylistTagLine
 returns-2 c =
     let past = c .before .before .before .before .before in
-    let kind = sym (c .before .before .before .before .tag-kind .ensures) ∙ ap kindRes (c .before .before .kind .given .1) in
+    let kind = sym (c .before .before .before .before .tag-kind .ensures) ∙ ap (optKind _) (c .before .before .kind .given .1) in
     rw (lt-ltb _ _ (past .before .before .if1 .left), ← past .while-any .ensures, kind) (c .with-rest .ensures)
 
 returns-3 : tie.Need-returns-3
 unfolding isMasterPlaylistTagLine
 returns-3 c =
     let past = c .before .before .before .before in
-    let none = sym (c .before .before .before .tag-kind .ensures) ∙ ap kindRes (c .before .enum-told .given .1) in
+    let none = sym (c .before .before .before .tag-kind .ensures) ∙ ap (optKind _) (c .before .enum-told .given .1) in
     rw (lt-ltb _ _ (past .before .before .if1 .left), ← past .while-any .ensures, none) (c .with-rest2 .ensures)
 
 pub is-master-playlist-tag-line-spec : {M : Type 1} → statement M

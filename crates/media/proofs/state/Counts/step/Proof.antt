@@ -2,47 +2,46 @@
 -- behind it. The counts fit, as the step ends beyond them. Assumes nothing.
 use mathlib.Core.Path.{_≡_, refl, sym, _∙_, ap}
 use mathlib.Core.List.{List}
-use mathlib.Core.Option.{none}
 use Prim.Native.Nat.{ℕ}
 use native.Mathlib.Omega.{arith}
 use borrow.Author.Needs.{needs}
 use denote.Ref.{now}
-use Rattle.text.specs.Nom.{Span, ok, bytes, runEnd, isOneOf}
-use Rattle.lengths.specs.Duration.{Extinf}
-use Rattle.tags.specs.Tags.{timed, Tag, ofClip, uri, took, mediaPlaylistTag}
-use Rattle.tags.specs.Tags as tags
+use Rattle.text.specs.Nom.{Span, ok, runEnd, isMultispace}
+use Rattle.lengths.specs.Duration.{Extinf, isLong}
+use Rattle.tags.specs.Tags.{timed, Tag, ofClip, uri, mediaPlaylistTag, step}
+use Rattle.steps.specs.Inside.Answers.{commonEndOf}
 use Rattle.tags.specs.Answers.{tagOf, tagRes}
-use Rattle.tags.proofs.MostLines.{common-ends}
-use Rattle.lengths.specs.Duration.{isLong}
+use Rattle.tags.proofs.Takes.{takes-step}
+use Rattle.steps.proofs.MostLines.{common-ends}
+use Rattle.assembly.specs.Assembly.{countsAfter}
 use Rattle.media.specs.declared.state.Counts.{Counts}
 use Rattle.media.specs.declared.reading.CountStep.{CountStep}
 use Rattle.media.specs.declared.reading.CountStep.the-variants as stepᵛ
-use Rattle.media.specs.Calls.{refusedTag}
-use Rattle.media.specs.Answers.{metOf, countsGo, onSays, countSays}
-use Rattle.media.proofs.Parts.{head-next, counts-next}
-use Rattle.media.proofs.Passes.{TookTo, took-to, no-step, took-on, long-refused, short-taken}
+use Rattle.media.specs.Inside.Passes.{countsSeen, onSays, countSays}
+use Rattle.media.proofs.Passes.{TookTo, took-on}
+use Rattle.media.proofs.Steps.{took-to, no-step, long-refused, short-taken, other-untimed}
 use Rattle.media.proofs.state.Counts.step.Statement.{statement}
 use Rattle.media.proofs.state.Counts.step.Tie as tie
 
--- what is handed on of a tag that was taken and is not refused says all that a step does
-handed-on : (r : CountStep) (c d : Counts) (text : List ℕ) (t : Tag) → tags.step text (c .at) ≡ ok (took (c .at) t) (d .at) → refusedTag t ≡ none → countsGo c d t → onSays r t d → countSays r c text
-handed-on stepᵛ.Stop c d text t k fine go on = absurd on
-handed-on (stepᵛ.Refused r) c d text t k fine go on = absurd on
-handed-on (stepᵛ.Next e) c d text t k fine go on = (t, rw (on .0) k, fine, on .1, rw (on .0) go)
-handed-on (stepᵛ.Told h e) c d text t k fine go on = rw (on .0, ← on .1) (k, go)
+-- what is made of a tag that was taken says all that a step does
+handed-on : (r : CountStep) (c d : Counts) (text : List ℕ) (t : Tag) → TookTo step text (c .at) t (d .at) → countsSeen d ≡ countsAfter (countsSeen c) t → onSays r t d → countSays step r c text
+handed-on stepᵛ.Stop c d text t k go on = absurd on
+handed-on (stepᵛ.Refused r) c d text t k go on = (t, d .at, k .taken, on)
+handed-on (stepᵛ.Next e) c d text t k go on = (t, rw (on .0) (k .taken), rw (on .0) go, on .1, on .2)
+handed-on (stepᵛ.Told h e) c d text t k go on = (rw (on .0, ← on .1) (k .taken), rw (on .0) (go ∙ ap (countsAfter (countsSeen c)) (on .1)))
 
 -- ---- the call's start, its text, and the step that each kind of line takes, up to the place behind its blanks
-abbrev start-uri : tie.After-after → tie.Start
-start-uri c = c .before .before .before .before
-
 abbrev read : tie.Start → List ℕ
 read c = now (c .args .text)
+
+abbrev start-uri : tie.After-after → tie.Start
+start-uri c = c .before .before .before .before
 
 said-uri : (c : tie.After-after) → (u : Span) × (mediaPlaylistTag (read (start-uri c)) (start-uri c .args .self .at) ≡ ok (uri u) (c .after .given .0 .0))
 said-uri c = rw (c .after .given .1) at (common-ends _ _ (c .before .before .common-end .ensures))
 
-took-uri : (c : tie.After-after) (n : ℕ) → n ≡ runEnd (isOneOf (bytes " \t\r\n")) (read (start-uri c)) (c .after .given .0 .0)
-    → TookTo (read (start-uri c)) (start-uri c .args .self .at) (uri (said-uri c .0)) n
+took-uri : (c : tie.After-after) (n : ℕ) → n ≡ runEnd isMultispace (read (start-uri c)) (c .after .given .0 .0)
+    → TookTo step (read (start-uri c)) (start-uri c .args .self .at) (uri (said-uri c .0)) n
 took-uri c n = took-to _ _ _ _ n (said-uri c .1)
 
 abbrev start-extinf : tie.After-too-many → tie.Start
@@ -52,16 +51,19 @@ said-extinf : (c : tie.After-too-many)
     → (e : Extinf) × (mediaPlaylistTag (read (start-extinf c)) (start-extinf c .args .self .at) ≡ ok (ofClip (timed e)) (c .too-many .given .0 .1 .0)) × (c .too-many .given .0 .0 ≡ isLong e)
 said-extinf c = rw (c .too-many .given .1) at (common-ends _ _ (c .before .before .common-end .ensures))
 
-took-extinf : (c : tie.After-too-many) (n : ℕ) → n ≡ runEnd (isOneOf (bytes " \t\r\n")) (read (start-extinf c)) (c .too-many .given .0 .1 .0)
-    → TookTo (read (start-extinf c)) (start-extinf c .args .self .at) (ofClip (timed (said-extinf c .0))) n
+took-extinf : (c : tie.After-too-many) (n : ℕ) → n ≡ runEnd isMultispace (read (start-extinf c)) (c .too-many .given .0 .1 .0)
+    → TookTo step (read (start-extinf c)) (start-extinf c .args .self .at) (ofClip (timed (said-extinf c .0))) n
 took-extinf c n = took-to _ _ _ _ n (said-extinf c .1)
 
 abbrev start : tie.After-t → tie.Start
 start c = c .before .before .before .before .before .before .before
 
-took-tag : (c : tie.After-t) (n : ℕ) → n ≡ runEnd (isOneOf (bytes " \t\r\n")) (read (start c)) (c .t .given .0 .1 .0)
-    → TookTo (read (start c)) (start c .args .self .at) (tagOf (c .t .given .0 .0)) n
-took-tag c n = took-to _ _ _ _ n (sym (c .before .before .media-playlist-tag .ensures) ∙ ap tagRes (c .t .given .1))
+said-tag : (c : tie.After-t) → mediaPlaylistTag (read (start c)) (start c .args .self .at) ≡ ok (tagOf (c .t .given .0 .0)) (c .t .given .0 .1 .0)
+said-tag c = sym (c .before .before .media-playlist-tag .ensures) ∙ ap tagRes (c .t .given .1)
+
+took-tag : (c : tie.After-t) (n : ℕ) → n ≡ runEnd isMultispace (read (start c)) (c .t .given .0 .1 .0)
+    → TookTo step (read (start c)) (start c .args .self .at) (tagOf (c .t .given .0 .0)) n
+took-tag c n = took-to _ _ _ _ n (said-tag c)
 
 -- ---- the needs
 common-end-requires : tie.Need-common-end-requires
@@ -77,8 +79,8 @@ after-uri-requires : tie.Need-after-uri-requires
 after-uri-requires c κs =
     let t = c .before .before in
     let pre = start-uri t .pre in
-    let on = took-on (took-uri t _ (c .multispace0 .ensures)) in
-    (omega (arith, on, pre .0), omega (arith, on, pre .1))
+    let on = took-on takes-step (took-uri t _ (c .multispace0 .ensures)) in
+    (omega (arith, on, pre .clips), omega (arith, on, pre .tags))
 
 enum-known-too-many : tie.Need-enum-known-too-many
 enum-known-too-many c = search needs
@@ -104,41 +106,34 @@ enum-told-2 c = search needs
 enum-known-t : tie.Need-enum-known-t
 enum-known-t c = search needs
 
-refused-for-requires : tie.Need-refused-for-requires
-refused-for-requires c κs = search needs
-
-enum-told-3 : tie.Need-enum-told-3
-enum-told-3 c = search needs
-
 multispace0-requires-3 : tie.Need-multispace0-requires-3
 multispace0-requires-3 c κs = search needs
 
 next-requires : tie.Need-next-requires
 next-requires c κs =
-    let t = c .before .before .before .before .before in
+    let t = c .before .before in
     let pre = start t .pre in
-    let on = took-on (took-tag t _ (c .multispace03 .ensures)) in
-    (omega (arith, on, pre .0), omega (arith, on, pre .1))
+    let on = took-on takes-step (took-tag t _ (c .multispace03 .ensures)) in
+    (omega (arith, on, pre .clips), omega (arith, on, pre .tags))
 
 counted-on-requires : tie.Need-counted-on-requires
-counted-on-requires c κs = search needs
-
-enum-known-r : tie.Need-enum-known-r
-enum-known-r c = search needs
+counted-on-requires c κs =
+    let t = c .before .before .before in
+    let other = t .before .before .before in
+    other-untimed _ _ _ _ (ap commonEndOf (sym (other .enum-told .given .1)) ∙ other .before .before .common-end .ensures) (said-tag t)
 
 returns-2 : tie.Need-returns-2
 returns-2 c =
     let t = c .before .before .before in
     let u = said-uri t .0 in
-    (uri u, took-uri t _ (c .after-uri .ensures .0 ∙ c .before .multispace0 .ensures) .taken, refl, λ s. head-next s (uri u), λ s. c .after-uri .ensures .1 s u)
+    (uri u, took-uri t _ (c .after-uri .ensures .0 ∙ c .before .multispace0 .ensures) .taken, c .after-uri .ensures .1 u, refl, λ h. refl)
 
 returns-3 : tie.Need-returns-3
 returns-3 c =
     let t = c .before .before .before in
     let said = said-extinf t in
-    let e = ofClip (timed (said .0)) in
     let fine = short-taken (said .0) (sym (said .2) ∙ c .before .if1 .left) in
-    (e, took-extinf t _ (c .multispace02 .ensures) .taken, fine, λ s. head-next s e, λ s q. q ∙ sym (counts-next s e))
+    (ofClip (timed (said .0)), took-extinf t _ (c .multispace02 .ensures) .taken, refl, fine, λ h. refl)
 
 returns-4 : tie.Need-returns-4
 returns-4 c = (_, no-step _ _ _ (sym (c .before .before .media-playlist-tag .ensures) ∙ ap tagRes (c .enum-told2 .given .1)))
@@ -146,16 +141,9 @@ returns-4 c = (_, no-step _ _ _ (sym (c .before .before .media-playlist-tag .ens
 returns-5 : tie.Need-returns-5
 returns-5 c =
     let n = c .before in
-    let r = n .before .before in
-    let t = r .before .before .before .before in
+    let t = n .before .before .before in
     let k = took-tag t _ (n .next .ensures .0 ∙ n .before .multispace03 .ensures) in
-    let fine = sym (r .before .before .refused-for .ensures) ∙ ap metOf (r .enum-told3 .given .1) in
-    handed-on (c .counted-on .result) (start t .args .self) (n .next .result) (read (start t)) _ (k .taken) fine (n .next .ensures .1) (c .counted-on .ensures)
-
-returns-6 : tie.Need-returns-6
-returns-6 c =
-    let t = c .before .before .before .before .before in
-    (tagOf (t .t .given .0 .0), _, took-tag t _ refl .taken, sym (c .before .before .before .refused-for .ensures) ∙ ap metOf (c .before .r .given .1))
+    handed-on (c .counted-on .result) (start t .args .self) (n .next .result) (read (start t)) _ k (n .next .ensures .1) (c .counted-on .ensures)
 
 pub step-spec : {M : Type 1} → statement M
 step-spec =
@@ -172,14 +160,10 @@ step-spec =
     media-playlist-tag-requires
     enum-told-2
     enum-known-t
-    refused-for-requires
-    enum-told-3
     multispace0-requires-3
     next-requires
     counted-on-requires
-    enum-known-r
     returns-2
     returns-3
     returns-4
-    returns-5
-    returns-6)
+    returns-5)

@@ -1,23 +1,20 @@
 -- `State::step` meets its contract: a URI and an EXTINF by what `common_line` ensures, any other tag by what `media_playlist_tag` does, each with the blanks
--- behind it. A URI lays its clip and no tag, an EXTINF lays nothing. The counts fit, as the step ends beyond them. Assumes nothing.
+-- behind it. A URI stores its clip and no tag, an EXTINF stores nothing. The counts fit, as the step ends beyond them. Assumes nothing.
 use mathlib.Core.Path.{_≡_, refl, sym, _∙_, ap}
 use mathlib.Core.List.{List}
 use Prim.Native.Nat.{ℕ}
 use native.Mathlib.Omega.{arith}
 use borrow.Author.Needs.{needs}
-use lib.Seq.{take-nil}
 use denote.Ref.{now}
-use Rattle.text.specs.Nom.{ok, bytes, runEnd, isOneOf}
+use Rattle.text.specs.Nom.{ok, runEnd, isMultispace}
 use Rattle.text.specs.Answers.{spanOf}
 use Rattle.lengths.specs.Answers.{extinfOf}
-use Rattle.tags.specs.Tags.{ClipTag, timed, Tag, ofClip, uri, mediaPlaylistTag}
+use Rattle.tags.specs.Tags.{timed, Tag, ofClip, uri, mediaPlaylistTag, step}
 use Rattle.tags.specs.Answers.{tagOf, tagRes}
-use Rattle.tags.proofs.MostLines.{common-takes}
-use Rattle.media.specs.Assembly.{segmentOf}
-use Rattle.media.specs.Words.{clipsWords, tagsWords}
-use Rattle.media.proofs.Parts.{segment-next, counts-next}
-use Rattle.media.proofs.Fills.{clip-in-told}
-use Rattle.media.proofs.Passes.{TookTo, took-to, no-step, took-on}
+use Rattle.tags.proofs.Takes.{takes-step}
+use Rattle.steps.proofs.MostLines.{common-takes}
+use Rattle.media.proofs.Passes.{TookTo, took-on}
+use Rattle.media.proofs.Steps.{took-to, no-step}
 use Rattle.media.proofs.state.State.step.Statement.{statement}
 use Rattle.media.proofs.state.State.step.Tie as tie
 
@@ -25,61 +22,64 @@ use Rattle.media.proofs.state.State.step.Tie as tie
 abbrev read : tie.Start → List ℕ
 read c = now (c .args .text)
 
-abbrev start-uri : tie.After-uri → tie.Start
-start-uri c = c .before .before .before .before .before .before .before .before
+abbrev start-uri : tie.After-u → tie.Start
+start-uri c = c .before .before .before .before .before .before
 
-abbrev tag-uri : tie.After-uri → Tag
-tag-uri c = uri (spanOf (c .uri .given .0 .0))
+abbrev tag-uri : tie.After-u → Tag
+tag-uri c = uri (spanOf (c .u .given .0 .0))
 
-said-uri : (c : tie.After-uri) → mediaPlaylistTag (read (start-uri c)) (start-uri c .args .self .counts .at) ≡ ok (tag-uri c) (c .uri .given .0 .1 .0)
-said-uri c = rw (c .uri .given .1) at (common-takes _ _ (c .before .before .common-line .ensures))
+said-uri : (c : tie.After-u) → mediaPlaylistTag (read (start-uri c)) (start-uri c .args .self .counts .at) ≡ ok (tag-uri c) (c .u .given .0 .1 .0)
+said-uri c = rw (c .u .given .1) at (common-takes _ _ (c .before .before .common-line .ensures))
 
-took-uri : (c : tie.After-uri) (n : ℕ) → n ≡ runEnd (isOneOf (bytes " \t\r\n")) (read (start-uri c)) (c .uri .given .0 .1 .0)
-    → TookTo (read (start-uri c)) (start-uri c .args .self .counts .at) (tag-uri c) n
+took-uri : (c : tie.After-u) (n : ℕ) → n ≡ runEnd isMultispace (read (start-uri c)) (c .u .given .0 .1 .0)
+    → TookTo step (read (start-uri c)) (start-uri c .args .self .counts .at) (tag-uri c) n
 took-uri c n = took-to _ _ _ _ n (said-uri c)
 
 abbrev start-extinf : tie.After-e → tie.Start
-start-extinf c = c .before .before .before .before .before .before .before .before
+start-extinf c = c .before .before .before .before .before .before
 
-abbrev told-extinf : tie.After-e → ClipTag
-told-extinf c = timed (extinfOf (c .e .given .0 .0))
+abbrev tag-extinf : tie.After-e → Tag
+tag-extinf c = ofClip (timed (extinfOf (c .e .given .0 .0)))
 
-said-extinf : (c : tie.After-e) → mediaPlaylistTag (read (start-extinf c)) (start-extinf c .args .self .counts .at) ≡ ok (ofClip (told-extinf c)) (c .e .given .0 .1 .0)
+said-extinf : (c : tie.After-e) → mediaPlaylistTag (read (start-extinf c)) (start-extinf c .args .self .counts .at) ≡ ok (tag-extinf c) (c .e .given .0 .1 .0)
 said-extinf c = rw (c .e .given .1) at (common-takes _ _ (c .before .before .common-line .ensures))
 
-took-extinf : (c : tie.After-e) (n : ℕ) → n ≡ runEnd (isOneOf (bytes " \t\r\n")) (read (start-extinf c)) (c .e .given .0 .1 .0)
-    → TookTo (read (start-extinf c)) (start-extinf c .args .self .counts .at) (ofClip (told-extinf c)) n
+took-extinf : (c : tie.After-e) (n : ℕ) → n ≡ runEnd isMultispace (read (start-extinf c)) (c .e .given .0 .1 .0)
+    → TookTo step (read (start-extinf c)) (start-extinf c .args .self .counts .at) (tag-extinf c) n
 took-extinf c n = took-to _ _ _ _ n (said-extinf c)
 
 abbrev start : tie.After-t → tie.Start
-start c = c .before .before .before .before .before .before .before .before .before .before .before
+start c = c .before .before .before .before .before .before .before .before .before
 
-took-tag : (c : tie.After-t) (n : ℕ) → n ≡ runEnd (isOneOf (bytes " \t\r\n")) (read (start c)) (c .t .given .0 .1 .0)
-    → TookTo (read (start c)) (start c .args .self .counts .at) (tagOf (c .t .given .0 .0)) n
+took-tag : (c : tie.After-t) (n : ℕ) → n ≡ runEnd isMultispace (read (start c)) (c .t .given .0 .1 .0)
+    → TookTo step (read (start c)) (start c .args .self .counts .at) (tagOf (c .t .given .0 .0)) n
 took-tag c n = took-to _ _ _ _ n (sym (c .before .before .media-playlist-tag .ensures) ∙ ap tagRes (c .t .given .1))
+
+-- from the blanks behind a line back to the line
+abbrev line-uri : tie.After-multispace0 → tie.After-u
+line-uri c = c .before .before .before .before .before .before
+
+abbrev line : tie.After-multispace03 → tie.After-t
+line c = c .before .before .before .before .before .before .before .before .before
 
 -- ---- the needs
 common-line-requires : tie.Need-common-line-requires
 common-line-requires c κs = search needs
 
-enum-known-uri : tie.Need-enum-known-uri
-enum-known-uri c = search needs
+enum-known-u : tie.Need-enum-known-u
+enum-known-u c = search needs
 
 put-clip-requires : tie.Need-put-clip-requires
-put-clip-requires c κs = start-uri (c .before .before) .pre .1
+put-clip-requires c κs = search needs
 
 multispace0-requires : tie.Need-multispace0-requires
 multispace0-requires c κs = search needs
 
 after-uri-requires : tie.Need-after-uri-requires
 after-uri-requires c κs =
-    let t = c .before .before .before .before .before .before in
-    let pre = start-uri t .pre .0 in
-    let on = took-on (took-uri t _ (c .multispace0 .ensures)) in
-    (omega (arith, on, pre .0), omega (arith, on, pre .1))
-
-empty-requires : tie.Need-empty-requires
-empty-requires c κs = search needs
+    let pre = start-uri (line-uri c) .pre in
+    let on = took-on takes-step (took-uri (line-uri c) _ (c .multispace0 .ensures)) in
+    (omega (arith, on, pre .clips), omega (arith, on, pre .tags))
 
 enum-known-e : tie.Need-enum-known-e
 enum-known-e c = search needs
@@ -87,8 +87,8 @@ enum-known-e c = search needs
 multispace0-requires-2 : tie.Need-multispace0-requires-2
 multispace0-requires-2 c κs = search needs
 
-timed-requires : tie.Need-timed-requires
-timed-requires c κs = search needs
+after-extinf-requires : tie.Need-after-extinf-requires
+after-extinf-requires c κs = search needs
 
 enum-told : tie.Need-enum-told
 enum-told c = search needs
@@ -103,52 +103,41 @@ enum-known-t : tie.Need-enum-known-t
 enum-known-t c = search needs
 
 put-requires : tie.Need-put-requires
-put-requires c κs =
-    let pre = start (c .before .before .before) .pre in
-    (omega (arith, pre .0 .1), pre .1)
+put-requires c κs = omega (arith, start (c .before .before .before) .pre .tags)
 
 multispace0-requires-3 : tie.Need-multispace0-requires-3
 multispace0-requires-3 c κs = search needs
 
 next-requires : tie.Need-next-requires
 next-requires c κs =
-    let t = c .before .before .before .before .before .before .before .before .before in
-    let pre = start t .pre .0 in
-    let on = took-on (took-tag t _ (c .multispace03 .ensures)) in
-    (omega (arith, on, pre .0), omega (arith, on, pre .1))
-
-next-requires-2 : tie.Need-next-requires-2
-next-requires-2 c κs = search needs
+    let pre = start (line c) .pre in
+    let on = took-on takes-step (took-tag (line c) _ (c .multispace03 .ensures)) in
+    (omega (arith, on, pre .clips), omega (arith, on, pre .tags))
 
 same-length : tie.Need-same-length
 same-length c = search needs
 
 returns : tie.Need-returns
-unfolding tagsWords
 returns c =
-    let m = c .before .before in
-    let p = m .before .before .before in
-    let t = p .before .before .before in (
+    let t = line-uri (c .before) in (
       tag-uri t,
-      took-uri t _ (c .before .after-uri .ensures .0 ∙ m .multispace0 .ensures) .taken,
-      λ a e w. record {
-        counts-go = c .before .after-uri .ensures .1 a _ e;
-        making-goes = rw (segment-next a (tag-uri t)) (c .empty .ensures);
-        lays = λ room _. (p .put-clip .ensures a e w room, rw take-nil);
+      record {
+        takes = took-uri t _ (c .after-uri .ensures .0 ∙ c .before .multispace0 .ensures) .taken;
+        goes-on = c .after-uri .ensures .1 (spanOf (t .u .given .0 .0));
+        clips-put = c .before .before .before .before .put-clip .ensures;
+        tags-put = refl;
       },
     )
 
 returns-2 : tie.Need-returns-2
-unfolding clipsWords tagsWords
 returns-2 c =
-    let t = c .before .before .before in
-    let x = ofClip (told-extinf t) in (
-      x,
-      took-extinf t _ (c .before .multispace02 .ensures) .taken,
-      λ a e w. record {
-        counts-go = e ∙ sym (counts-next a x);
-        making-goes = rw (segment-next a x) (c .timed .ensures (segmentOf a) w);
-        lays = λ _ _. (rw (clip-in-told a), rw take-nil);
+    let t = c .before .before .before in (
+      tag-extinf t,
+      record {
+        takes = took-extinf t _ (c .after-extinf .ensures .0 ∙ c .before .multispace02 .ensures) .taken;
+        goes-on = c .after-extinf .ensures .1;
+        clips-put = refl;
+        tags-put = refl;
       },
     )
 
@@ -163,11 +152,15 @@ same-length-3 c = search needs
 
 returns-4 : tie.Need-returns-4
 returns-4 c =
-    let p = c .before .before .before .before .before .before .before in
-    let t = p .before .before .before .before in (
+    let t = line (c .before) in
+    let put = c .before .before .before .before .before .before .put .ensures in (
       tagOf (t .t .given .0 .0),
-      took-tag t _ (c .before .next .ensures .0 ∙ c .before .before .multispace03 .ensures) .taken,
-      λ a e w. record { counts-go = c .before .next .ensures .1 a e; making-goes = c .next2 .ensures a w; lays = p .put .ensures a e w },
+      record {
+        takes = took-tag t _ (c .next .ensures .0 ∙ c .before .multispace03 .ensures) .taken;
+        goes-on = c .next .ensures .1;
+        clips-put = put .0;
+        tags-put = put .1;
+      },
     )
 
 pub step-spec : {M : Type 1} → statement M
@@ -175,14 +168,13 @@ step-spec =
     tie.close
     (tie.spec
     common-line-requires
-    enum-known-uri
+    enum-known-u
     put-clip-requires
     multispace0-requires
     after-uri-requires
-    empty-requires
     enum-known-e
     multispace0-requires-2
-    timed-requires
+    after-extinf-requires
     enum-told
     media-playlist-tag-requires
     enum-told-2
@@ -190,7 +182,6 @@ step-spec =
     put-requires
     multispace0-requires-3
     next-requires
-    next-requires-2
     same-length
     returns
     returns-2

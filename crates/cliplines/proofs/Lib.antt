@@ -1,0 +1,2 @@
+-- ranges by what stands around them
+pub mod Between

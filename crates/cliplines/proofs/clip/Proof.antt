@@ -1,0 +1,69 @@
+-- `clip` meets its contract: its six groups, one behind the other. Assumes nothing.
+use borrow.Author.Needs.{needs}
+use mathlib.Core.Path.{sym}
+use denote.Ref.{now}
+use Rattle.text.specs.Answers.{spanOf, partOf}
+use Rattle.attributes.specs.Answers.{optRangeOf}
+use Rattle.assembly.specs.Answers.{segmentMapOf}
+use Rattle.playlist.proofs.Groups.{clip-text}
+use Rattle.put.proofs.Putting.{puts-as, puts-then}
+use Rattle.cliplines.proofs.Between.{range-lines}
+use Rattle.cliplines.proofs.clip.Statement.{statement}
+use Rattle.cliplines.proofs.clip.Tie as tie
+
+map-lines-requires : tie.Need-map-lines-requires
+map-lines-requires c κs = search needs
+
+slice-aggregate-range-between : tie.Need-slice-aggregate-range-between
+slice-aggregate-range-between c = search needs
+
+range-between-requires : tie.Need-range-between-requires
+range-between-requires c κs = search needs
+
+slice-aggregate-copy-where : tie.Need-slice-aggregate-copy-where
+slice-aggregate-copy-where c = search needs
+
+copy-where-requires : tie.Need-copy-where-requires
+copy-where-requires c κs = search needs
+
+tag-lines-requires : tie.Need-tag-lines-requires
+tag-lines-requires c κs = search needs
+
+extinf-line-requires : tie.Need-extinf-line-requires
+extinf-line-requires c κs = search needs
+
+uri-line-requires : tie.Need-uri-line-requires
+uri-line-requires c κs = search needs
+
+same-length : tie.Need-same-length
+same-length c = search needs
+
+returns : tie.Need-returns
+returns c =
+    let g = c .before .before in
+    let f = g .before .before .before .before in
+    let e = f .before .before .before .before in
+    let d = e .before .before .before .before in
+    let b = d .before .before .before .before .before in
+    let a = b .before .before .before .before .before in
+    let s = a .before .before .before .before .before .before .before .args in
+    let k = s .c .segment in
+    let range = puts-as (range-lines (optRangeOf (k .«byte_range»))) (b .range-between .ensures) in
+    puts-as
+    (sym (clip-text (now (s .text)) (now (s .tags)) (s .tag-count) (spanOf (s .c .uri)) (k .length) (partOf (k .title)) (optRangeOf (k .«byte_range»)) (k .discontinuity) (segmentMapOf (k .map)) (s .c .first) (s .c .count)))
+    (puts-then (a .map-lines .ensures) (puts-then range (puts-then (d .copy-where .ensures) (puts-then (e .tag-lines .ensures) (puts-then (f .extinf-line .ensures) (g .uri-line .ensures))))))
+
+pub clip-spec : {M : Type 1} → statement M
+clip-spec =
+    tie.close
+    (tie.spec
+    map-lines-requires
+    slice-aggregate-range-between
+    range-between-requires
+    slice-aggregate-copy-where
+    copy-where-requires
+    tag-lines-requires
+    extinf-line-requires
+    uri-line-requires
+    same-length
+    returns)

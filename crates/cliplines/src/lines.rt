@@ -1,0 +1,122 @@
+// A line of each kind that a clip can have, at a place of the output.
+use assembly::segment::SegmentMap;
+use attributes::ext_map::OptRange;
+use leaves::basic_tags::ExtTag;
+use leaves::util::ByteRange;
+use leaves::util::Offset;
+use text::Part;
+use text::Span;
+ghost use Rattle.text.specs.Answers.{spanOf, partOf};
+ghost use Rattle.text.specs.Spans.{shown, shownPart};
+ghost use Rattle.leaves.specs.Answers.{byteRangeOf, extTagOf};
+ghost use Rattle.attributes.specs.Answers.{optRangeOf};
+ghost use Rattle.assembly.specs.Answers.{segmentMapOf};
+ghost use Rattle.put.specs.Put.{Puts};
+ghost use Rattle.playlist.specs.Lines.{extinfLine, uriLine, rangeBytes, restBytes, lineBytes, lineIf, linesText, mapLineOf, tagLineOf, titleText};
+ghost use Rattle.cliplines.specs.Inside.Between.{rangeBetween};
+
+// ---- byte ranges and the map
+
+fn range_value(out: &mut [u8], at: usize, r: ByteRange) -> usize
+    ensures { λ n. ⌜ Puts (now (out .entry)) at (rangeBytes (byteRangeOf r)) (now (out .exit)) n ⌝ }
+{
+    let offset = r.offset;
+    let sign = numerals::number(out, at, r.length);
+    match offset {
+        Offset::Absent => sign,
+        Offset::At(o) => {
+            let value = put::byte(out, sign, b'@');
+            numerals::number(out, value, o)
+        }
+    }
+}
+
+// A range with what stands around it.
+pub(crate) fn range_between(
+    out: &mut [u8],
+    at: usize,
+    before: &[u8],
+    r: OptRange,
+    last: u8,
+) -> usize
+    ensures { λ n. ⌜ Puts (now (out .entry)) at (rangeBetween (now (before .entry)) (optRangeOf r) last) (now (out .exit)) n ⌝ }
+{
+    match r {
+        OptRange::Absent => at,
+        OptRange::Present(r) => {
+            let value = put::copy(out, at, before);
+            let end = range_value(out, value, r);
+            put::byte(out, end, last)
+        }
+    }
+}
+
+pub(crate) fn map_lines(out: &mut [u8], at: usize, text: &[u8], m: SegmentMap) -> usize
+    ensures { λ r. ⌜ Puts (now (out .entry)) at (linesText (lineIf (mapLineOf (now (text .entry))) (segmentMapOf m))) (now (out .exit)) r ⌝ }
+{
+    match m {
+        SegmentMap::Absent => at,
+        SegmentMap::Is(m) => {
+            let uri = m.uri;
+            let range = m.byte_range;
+            let start = put::copy(out, at, b"#EXT-X-MAP:URI=\"");
+            let quote = put::shown(out, start, text, uri);
+            let comma = put::byte(out, quote, b'"');
+            let end = range_between(out, comma, b",BYTERANGE=\"", range, b'"');
+            put::byte(out, end, b'\n')
+        }
+    }
+}
+
+// ---- an unknown tag
+
+fn tag_rest(out: &mut [u8], at: usize, text: &[u8], rest: Part) -> usize
+    ensures { λ r. ⌜ Puts (now (out .entry)) at (restBytes (shownPart (now (text .entry)) (partOf rest))) (now (out .exit)) r ⌝ }
+{
+    match rest {
+        Part::Absent => at,
+        Part::Present(s) => {
+            let start = put::byte(out, at, b':');
+            put::shown(out, start, text, s)
+        }
+    }
+}
+
+pub(crate) fn tag_line(out: &mut [u8], at: usize, text: &[u8], t: ExtTag) -> usize
+    ensures { λ r. ⌜ Puts (now (out .entry)) at (lineBytes (tagLineOf (now (text .entry)) (extTagOf t))) (now (out .exit)) r ⌝ }
+{
+    let name = t.tag;
+    let rest = t.rest;
+    let start = put::copy(out, at, b"#EXT-");
+    let colon = put::shown(out, start, text, name);
+    let end = tag_rest(out, colon, text, rest);
+    put::byte(out, end, b'\n')
+}
+
+// ---- length, title and URI
+
+fn title(out: &mut [u8], at: usize, text: &[u8], title: Part) -> usize
+    ensures { λ r. ⌜ Puts (now (out .entry)) at (titleText (now (text .entry)) (partOf title)) (now (out .exit)) r ⌝ }
+{
+    match title {
+        Part::Absent => at,
+        Part::Present(s) => put::shown(out, at, text, s),
+    }
+}
+
+pub(crate) fn extinf_line(out: &mut [u8], at: usize, text: &[u8], ns: u64, name: Part) -> usize
+    ensures { λ r. ⌜ Puts (now (out .entry)) at (lineBytes (extinfLine ns (titleText (now (text .entry)) (partOf name)))) (now (out .exit)) r ⌝ }
+{
+    let start = put::copy(out, at, b"#EXTINF:");
+    let comma = numerals::length(out, start, ns);
+    let shown = put::byte(out, comma, b',');
+    let end = title(out, shown, text, name);
+    put::byte(out, end, b'\n')
+}
+
+pub(crate) fn uri_line(out: &mut [u8], at: usize, text: &[u8], s: Span) -> usize
+    ensures { λ r. ⌜ Puts (now (out .entry)) at (lineBytes (uriLine (shown (now (text .entry)) (spanOf s)))) (now (out .exit)) r ⌝ }
+{
+    let end = put::shown(out, at, text, s);
+    put::byte(out, end, b'\n')
+}

@@ -1,0 +1,2 @@
+-- no second answer fits a contract
+pub mod Only

@@ -1,0 +1,47 @@
+-- Heads, clips and unknown tags whose spans are in order and end at n at most: those of a text of n bytes. And runs of unknown tags within theirs.
+-- Assumes nothing.
+use Prim.Native.Nat.{ℕ, _+_, _≤_, _<_}
+use mathlib.Core.List.{List}
+use mathlib.Core.Option.{Option, none, some}
+use Rattle.text.specs.Nom.{Span, span}
+use Rattle.text.specs.BasicTags.{ExtTag, ext, PlaylistType, event, vod, other}
+use Rattle.attributes.specs.ExtMap.{Map, extMap}
+use Rattle.tables.specs.Layout as layout
+use Rattle.tables.specs.Table.{clipWord}
+use Rattle.assembly.specs.Assembly.{segment, Clip, clip}
+use Rattle.records.specs.Records.{clipAt, tagAt}
+
+module _ (n : ℕ) where
+  abbrev pub SpanBelow : Span → Type 0
+  SpanBelow (span a b) = (a ≤ b) × (b ≤ n)
+
+  abbrev pub PartBelow : Option Span → Type 0
+  PartBelow none = Unit {0}
+  PartBelow (some s) = SpanBelow s
+
+  abbrev pub TypeBelow : Option PlaylistType → Type 0
+  TypeBelow none = Unit {0}
+  TypeBelow (some event) = Unit {0}
+  TypeBelow (some vod) = Unit {0}
+  TypeBelow (some (other s)) = SpanBelow s
+
+  abbrev pub MapBelow : Option Map → Type 0
+  MapBelow none = Unit {0}
+  MapBelow (some (extMap u r l)) = SpanBelow u
+
+  abbrev pub TagBelow : ExtTag → Type 0
+  TagBelow (ext name rest) = SpanBelow name × PartBelow rest
+
+  abbrev pub ClipBelow : Clip → Type 0
+  ClipBelow (clip u (segment l t r d m) f k) = SpanBelow u × (PartBelow t × MapBelow m)
+
+  -- the records of a table
+  abbrev pub TagsBelow : List ℕ → ℕ → Type 0
+  TagsBelow tags m = (k : ℕ) → k < m → TagBelow (tagAt tags k)
+
+  abbrev pub ClipsBelow : List ℕ → ℕ → Type 0
+  ClipsBelow clips m = (k : ℕ) → k < m → ClipBelow (clipAt clips k)
+
+-- the run of each of n clips is within m unknown tags
+abbrev pub RunsWithin : List ℕ → ℕ → ℕ → Type 0
+RunsWithin clips n m = (k : ℕ) → k < n → clipWord clips k layout.firstTag + clipWord clips k layout.tagCount ≤ m

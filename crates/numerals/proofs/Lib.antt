@@ -1,0 +1,2 @@
+-- digits of a fraction, one by one
+pub mod Fraction

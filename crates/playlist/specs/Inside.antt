@@ -1,0 +1,2 @@
+-- the parts of a text, by their place in the tables
+pub mod Texts

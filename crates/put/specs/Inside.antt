@@ -1,0 +1,2 @@
+-- what a function asks that makes no test
+pub mod Room

@@ -1,0 +1,1 @@
+-- the laws stand in `text`

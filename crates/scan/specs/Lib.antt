@@ -1,0 +1,1 @@
+-- the rules stand in `text`

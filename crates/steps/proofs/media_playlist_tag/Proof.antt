@@ -1,0 +1,55 @@
+-- `media_playlist_tag`: where no byte stands it fails, and where no `#` stands it is a URI; else the tags of the head, then the others. Assumes nothing.
+use borrow.Author.Needs.{needs}
+use Rattle.tags.proofs.Tried.{failed, held}
+use Rattle.tags.proofs.Begins.{head-first, not-hash}
+use Rattle.tags.specs.Tags.{mediaPlaylistTag}
+use borrow.Author.Tests.{le-ltb}
+use mathlib.Core.Path.{sym, _∙_}
+use Rattle.steps.proofs.media_playlist_tag.Statement.{statement}
+use Rattle.steps.proofs.media_playlist_tag.Tie as tie
+
+returns : tie.Need-returns
+unfolding mediaPlaylistTag
+returns c = rw (le-ltb _ _ (c .if1 .taken))
+
+shared-slice-read-if2 : tie.Need-shared-slice-read-if2
+shared-slice-read-if2 c = search needs
+
+uri-line-requires : tie.Need-uri-line-requires
+uri-line-requires c κs = search needs
+
+returns-2 : tie.Need-returns-2
+returns-2 c = c .uri-line .ensures ∙ sym (not-hash _ _ (c .before .if2 .taken) (c .before .before .before .if1 .left))
+
+playlist-tag-requires : tie.Need-playlist-tag-requires
+playlist-tag-requires c κs = search needs
+
+enum-told : tie.Need-enum-told
+enum-told c = search needs
+
+enum-told-2 : tie.Need-enum-told-2
+enum-told-2 c = search needs
+
+media-segment-tag-requires : tie.Need-media-segment-tag-requires
+media-segment-tag-requires c κs = search needs
+
+returns-3 : tie.Need-returns-3
+returns-3 c = let t = c .before .before in held _ (t .playlist-tag .ensures) (c .enum-told .given .1) ∙ head-first _ _ (t .before .before .before .if1 .left)
+
+returns-4 : tie.Need-returns-4
+returns-4 c = let t = c .before .before .before in c .media-segment-tag .ensures ∙ failed (t .playlist-tag .ensures) (c .before .enum-told2 .given .1) ∙ head-first _ _ (t .before .before .before .if1 .left)
+
+pub media-playlist-tag-spec : {M : Type 1} → statement M
+media-playlist-tag-spec =
+    tie.close
+    (tie.spec
+    returns
+    shared-slice-read-if2
+    uri-line-requires
+    returns-2
+    playlist-tag-requires
+    enum-told
+    enum-told-2
+    media-segment-tag-requires
+    returns-3
+    returns-4)

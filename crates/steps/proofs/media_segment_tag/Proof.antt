@@ -1,0 +1,32 @@
+-- `media_segment_tag`: a tag of a clip, or what else may stand there. Assumes nothing.
+use borrow.Author.Needs.{needs}
+use Rattle.tags.proofs.Tried.{failed, held}
+use Rattle.tags.specs.Tags.{mediaSegmentTag}
+use mathlib.Core.Path.{_∙_}
+use Rattle.steps.proofs.media_segment_tag.Statement.{statement}
+use Rattle.steps.proofs.media_segment_tag.Tie as tie
+
+segment-tag-requires : tie.Need-segment-tag-requires
+segment-tag-requires c κs = search needs
+
+enum-told : tie.Need-enum-told
+enum-told c = search needs
+
+enum-told-2 : tie.Need-enum-told-2
+enum-told-2 c = search needs
+
+other-tag-requires : tie.Need-other-tag-requires
+other-tag-requires c κs = search needs
+
+returns : tie.Need-returns
+unfolding mediaSegmentTag
+returns c = held _ (c .before .before .segment-tag .ensures) (c .enum-told .given .1)
+
+returns-2 : tie.Need-returns-2
+unfolding mediaSegmentTag
+returns-2 c = c .other-tag .ensures ∙ failed (c .before .before .before .segment-tag .ensures) (c .before .enum-told2 .given .1)
+
+pub media-segment-tag-spec : {M : Type 1} → statement M
+media-segment-tag-spec =
+    tie.close
+    (tie.spec segment-tag-requires enum-told enum-told-2 other-tag-requires returns returns-2)

@@ -1,0 +1,2 @@
+-- what the call answers and leaves in the output
+pub mod Answered
