@@ -1,8 +1,8 @@
-//! A proved reader of HLS media playlists, with an exact clock, in the shapes of m3u8-rs 6.0.1.
+//! HLS media playlists read and written by a proved library, with an exact clock, in the shapes of m3u8-rs 6.0.1.
 //!
 //! The work is done by `libledgerfern.a`, whose calls are proved to answer every input, to end, and to touch only what
 //! they are lent. This crate lends them tables, and makes the values that a user of m3u8-rs knows of what comes back. It
-//! has no dependency, does not panic on any input, and its unsafe code is the six calls in `ffi`.
+//! has no dependency, does not panic on any input, and its unsafe code is the seven calls in `ffi`.
 //!
 //! ```no_run
 //! let text = std::fs::read("list.m3u8").unwrap_or_default();

@@ -151,8 +151,7 @@ impl Packed {
         let [title_start, title_end] = self.part(&segment.title);
         let (range_flags, [range_length, range_offset]) =
             range(&segment.byte_range, layout::HAS_RANGE, layout::HAS_RANGE_OFFSET);
-        let (map_flags, [map_uri_start, map_uri_end, map_length, map_offset, list_start, list_end]) =
-            self.map(&segment.map);
+        let (map_flags, [map_uri_start, map_uri_end, map_length, map_offset]) = self.map(&segment.map);
         let discontinuity = if segment.discontinuity { layout::HAS_DISCONTINUITY } else { 0 };
         let first_tag = (self.tags.len() / TAG_WORDS) as u64;
         // In the order of the layout.
@@ -170,8 +169,8 @@ impl Packed {
             map_uri_end,
             map_length,
             map_offset,
-            list_start,
-            list_end,
+            0,
+            0,
             first_tag,
             segment.unknown_tags.len() as u64,
         ]);
@@ -195,16 +194,16 @@ impl Packed {
         Ok(out)
     }
 
-    /// A map's flags, and its words: URI, range, list.
-    fn map(&mut self, map: &Option<Map>) -> (u64, [u64; 6]) {
+    /// A map's flags, and its words: URI and range. The words of its list stay 0: it is not written, and laid down it
+    /// would hold the URI a second time, so that a text that was read could pack to one that is too long.
+    fn map(&mut self, map: &Option<Map>) -> (u64, [u64; 4]) {
         let map = match map {
             Some(map) => map,
-            None => return (0, [0; 6]),
+            None => return (0, [0; 4]),
         };
         let [uri_start, uri_end] = self.span(&map.uri);
-        let [list_start, list_end] = self.span(&map.attributes);
         let (flags, [length, offset]) = range(&map.byte_range, layout::HAS_MAP_RANGE, layout::HAS_MAP_OFFSET);
-        (layout::HAS_MAP | flags, [uri_start, uri_end, length, offset, list_start, list_end])
+        (layout::HAS_MAP | flags, [uri_start, uri_end, length, offset])
     }
 }
 

@@ -231,6 +231,16 @@ fn written() {
     assert_eq!(out, b"#EXTM3U\n#EXT-X-TARGETDURATION:0\n#EXTINF:2.002,\n\n");
 }
 
+/// A map's list holds its URI too; packed with it, this text of 40,028 bytes would be one of over 65,536.
+fn long_map() {
+    let uri = "m".repeat(40_000);
+    let text = format!("#EXTM3U\n#EXT-X-MAP:URI=\"{}\"\nx\n", uri);
+    assert_eq!(text.len(), 40_028);
+    let out = parsed(&text).to_text().expect("it is written");
+    let expected = format!("#EXTM3U\n#EXT-X-TARGETDURATION:0\n#EXT-X-MAP:URI=\"{}\"\n#EXTINF:0,\nx\n", uri);
+    assert!(out == expected.as_bytes());
+}
+
 type Case = (&'static str, fn());
 
 const CASES: &[Case] = &[
@@ -245,6 +255,7 @@ const CASES: &[Case] = &[
     ("refusals", refusals),
     ("verdicts", verdicts),
     ("written", written),
+    ("long map", long_map),
     ("fullest", fullest),
     ("any pieces", any_pieces),
 ];

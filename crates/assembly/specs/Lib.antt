@@ -4,5 +4,7 @@ pub mod Assembly
 pub mod Words
 -- what the code's values say in these words
 pub mod Answers
+-- worked examples
+pub mod Examples
 -- what inner contracts cite, and no rule
 pub mod Inside

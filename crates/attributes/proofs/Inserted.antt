@@ -4,7 +4,6 @@ use mathlib.Core.Path.{_≡_, refl, sym, _∙_, ap}
 use mathlib.Core.Bool.{Bool, true, false, cond}
 use mathlib.Core.List.{List, [], _∷_, _++_, map, append-assoc}
 use mathlib.Core.Option.{Option, some}
-use mathlib.Core.Logic.{⊎-elim}
 use native.Mathlib.Omega.{arith}
 use lib.ListN.{length, replicate, length-append, length-replicate}
 use lib.Seq.{sets, sets-eq, take-append-seam, drop-append-add, drop-append-seam}
@@ -12,8 +11,7 @@ use Rattle.text.specs.Nom.{Span}
 use Rattle.text.specs.Util.{spells}
 use Rattle.attributes.specs.Pairs.{QuotedOrUnquoted, Pair, pair}
 use Rattle.attributes.specs.Held.{attrWords, wordsOf, laid}
-use Rattle.attributes.specs.Inside.Insert.{nowhere, found, foundIn, stored, insertedFrom}
-use Rattle.attributes.proofs.Found.{not-found, found-either, nowhere-both}
+use Rattle.attributes.specs.Inside.Insert.{stored, insertedFrom}
 use Rattle.attributes.proofs.Laid.{three, room-or-not, laid-more, laid-less, stored-there, stored-not}
 
 -- words in the place of as many
@@ -31,21 +29,20 @@ module _ (text : List ℕ) (left : Span) (right : QuotedOrUnquoted) where
   abbrev value : List ℕ
   value = wordsOf (some right)
 
-  -- ---- from one name that is found to the next
-  pub inserted-nowhere : (n : ℕ) (ws : List (List ℕ)) (held : List ℕ) → foundIn text left n ws ≡ nowhere → insertedFrom text p n ws held ≡ held
-  unfolding insertedFrom
-  inserted-nowhere n [] held e = refl
-  inserted-nowhere n (w ∷ ws) held e = let h = nowhere-both text left n w ws e in rw (h .0) (inserted-nowhere (n + 1) ws held (h .1))
+  -- ---- name by name
+  module _ (n : ℕ) (ws : List (List ℕ)) (held : List ℕ) where
+    pub inserted-out : ws ≡ [] → insertedFrom text p n ws held ≡ held
+    unfolding insertedFrom
+    inserted-out q = rw q
 
-  pub inserted-found : (n m : ℕ) (ws rest : List (List ℕ)) (held : List ℕ) → foundIn text left n ws ≡ found m rest
-      → insertedFrom text p n ws held ≡ insertedFrom text p (m + 1) rest (stored held m (wordsOf (some right)))
-  unfolding insertedFrom
-  inserted-found n m [] rest held e = absurd (not-found text left n m rest e)
-  inserted-found n m (w ∷ ws) rest held e =
-      ⊎-elim
-      (λ h. rw (h .0, h .1, h .2))
-      (λ h. rw (h .0) (inserted-found (n + 1) m ws rest held (h .1)))
-      (found-either text left n m w ws rest e)
+    module _ (w : List ℕ) (rest : List (List ℕ)) (q : ws ≡ w ∷ rest) where
+      pub inserted-here : spells text left w ≡ true → insertedFrom text p n ws held ≡ insertedFrom text p (n + 1) rest (stored held n (wordsOf (some right)))
+      unfolding insertedFrom
+      inserted-here e = rw (q, e)
+
+      pub inserted-on : spells text left w ≡ false → insertedFrom text p n ws held ≡ insertedFrom text p (n + 1) rest held
+      unfolding insertedFrom
+      inserted-on e = rw (q, e)
 
   -- ---- where there is no room, nothing is stored
   inserted-not : (n : ℕ) (ws : List (List ℕ)) (held : List ℕ) → length held < n * attrWords + attrWords → insertedFrom text p n ws held ≡ held

@@ -2,10 +2,8 @@
 pub mod Takes
 -- a pair whose name is there
 pub mod Name
--- names with commas between them
+-- names one after the other, with their sizes
 pub mod Words
--- which of some names a part of the text is
-pub mod Found
 -- what is held under some names
 pub mod Laid
 -- and with one pair more

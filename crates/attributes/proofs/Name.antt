@@ -22,7 +22,7 @@ run-ended p (x ∷ s) h = go (p x) refl (run-ended p s) h
     go false e ih h = e
 
 -- where a run of other bytes ends within the text, the byte that ends it is there
-pub until-there : (c : ℕ) (text : List ℕ) (at e : ℕ) → e ≡ runEnd (isNoneOf (c ∷ [])) text at → e < length text → tagged (c ∷ []) text e ≡ true
+until-there : (c : ℕ) (text : List ℕ) (at e : ℕ) → e ≡ runEnd (isNoneOf (c ∷ [])) text at → e < length text → tagged (c ∷ []) text e ≡ true
 unfolding runEnd
 until-there c text at e q h =
     let s = drop at text in

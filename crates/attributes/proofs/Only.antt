@@ -82,8 +82,8 @@ pub attr-only : Only attrOf
 attr-only = only-by attrOf attrBack attr-back
 
 -- what a walk answers, and what it leaves in the lent words
-pub last-of-each-only : {text : List ℕ} {at : ℕ} {names held₀ held held′ : List ℕ} {end end′ : ℕ}
-    → LastOfEach text at names held₀ held end → LastOfEach text at names held₀ held′ end′
+pub last-of-each-only : {text : List ℕ} {at : ℕ} {names sizes held₀ held held′ : List ℕ} {end end′ : ℕ}
+    → LastOfEach text at names sizes held₀ held end → LastOfEach text at names sizes held₀ held′ end′
     → (end ≡ end′) × (held ≡ held′)
 last-of-each-only p q = (p .ends ∙ sym (q .ends), p .holds ∙ sym (q .holds))
 

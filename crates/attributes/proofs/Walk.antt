@@ -90,10 +90,10 @@ module _ (text : List ℕ) (at : ℕ) where
   abbrev pairs : List Pair
   pairs = items (many0 nextPair text at)
 
-  pub attr-held : {names held₀ held : List ℕ} {end : ℕ} → LastOfEach text at names held₀ held end
-      → (k : ℕ) → k < length (words names) → k * attrWords + attrWords ≤ length held₀
-      → attrAt held k ≡ get text (getD (words names) k []) (items (many0 nextPair text at))
-  attr-held {names} {held₀} e k l h = rw (e .holds) (laid-at (length held₀) k _ h ∙ at-name (λ name. get text name pairs) (words names) k l)
+  pub attr-held : {names sizes held₀ held : List ℕ} {end : ℕ} → LastOfEach text at names sizes held₀ held end
+      → (k : ℕ) → k < length (words names sizes) → k * attrWords + attrWords ≤ length held₀
+      → attrAt held k ≡ get text (getD (words names sizes) k []) (items (many0 nextPair text at))
+  attr-held {names} {sizes} {held₀} e k l h = rw (e .holds) (laid-at (length held₀) k _ h ∙ at-name (λ name. get text name pairs) (words names sizes) k l)
 
   -- ---- a MAP, by what the list has under its two names
   abbrev pub mapped : Option QuotedOrUnquoted → Option QuotedOrUnquoted → ℕ → Res Map
@@ -113,7 +113,7 @@ module _ (text : List ℕ) (at : ℕ) where
 
   -- the names in the code's order
   pub map-by-held : {held₀ held : List ℕ} {end : ℕ} (uri range : Option QuotedOrUnquoted)
-      → LastOfEach text at (bytes "URI,BYTERANGE") held₀ held end → 2 * attrWords ≤ length held₀
+      → LastOfEach text at (bytes "URIBYTERANGE") (3 ∷ 9 ∷ []) held₀ held end → 2 * attrWords ≤ length held₀
       → uri ≡ attrAt held 0 → range ≡ attrAt held 1 → extmap text at ≡ mapped uri range end
   unfolding words
   map-by-held uri range e h u r =

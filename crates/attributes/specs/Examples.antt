@@ -76,14 +76,19 @@ last-holds : get (bytes "a=1,a=2,b=3") (bytes "a") (pair (span 0 1) (bare (span 
 unfolding inserted spells tagged begins
 last-holds = refl
 
-two-words : words (bytes "URI,BYTERANGE") ≡ bytes "URI" ∷ bytes "BYTERANGE" ∷ []
+two-words : words (bytes "URIBYTERANGE") (3 ∷ 9 ∷ []) ≡ bytes "URI" ∷ bytes "BYTERANGE" ∷ []
 unfolding words
 two-words = refl
+
+-- a text that is too short
+short-words : words (bytes "URIBY") (3 ∷ 9 ∷ 2 ∷ []) ≡ bytes "URI" ∷ bytes "BY" ∷ [] ∷ []
+unfolding words
+short-words = refl
 
 -- five names at once: of two METHODs the last holds, and the list has no KEYFORMAT
 five-names : (let text = bytes "METHOD=AES-128,URI=\"k\",IV=0x1,METHOD=NONE\n" in
     let m = many0 nextPair text 0 in
-    many (map (λ name. get text name (items m)) (words (bytes "METHOD,URI,IV,KEYFORMAT,KEYFORMATVERSIONS"))) (stop m)
+    many (map (λ name. get text name (items m)) (words (bytes "METHODURIIVKEYFORMATKEYFORMATVERSIONS") (6 ∷ 3 ∷ 2 ∷ 9 ∷ 17 ∷ []))) (stop m)
     ≡ many (some (bare (span 37 41)) ∷ some (inQuotes (span 20 21)) ∷ some (bare (span 26 29)) ∷ none ∷ none ∷ []) 41)
 unfolding many0 manyTurns nextPair keyValuePair quoted unquoted inserted words spells runEnd run tagged afterTag begins
 five-names = refl
@@ -103,11 +108,11 @@ read-back : map (attrAt (1 ∷ 37 ∷ 41 ∷ 2 ∷ 20 ∷ 21 ∷ 0 ∷ 0 ∷ 0 �
 unfolding attrWord
 read-back = refl
 
-only-these : besides (bytes "a=1,b=2") (words (bytes "a,b")) (pair (span 0 1) (bare (span 2 3)) ∷ pair (span 4 5) (bare (span 6 7)) ∷ []) ≡ false
+only-these : besides (bytes "a=1,b=2") (words (bytes "ab") (1 ∷ 1 ∷ [])) (pair (span 0 1) (bare (span 2 3)) ∷ pair (span 4 5) (bare (span 6 7)) ∷ []) ≡ false
 unfolding besides named words spells tagged begins
 only-these = refl
 
-one-more : besides (bytes "a=1,b=2") (words (bytes "a,c")) (pair (span 0 1) (bare (span 2 3)) ∷ pair (span 4 5) (bare (span 6 7)) ∷ []) ≡ true
+one-more : besides (bytes "a=1,b=2") (words (bytes "ac") (1 ∷ 1 ∷ [])) (pair (span 0 1) (bare (span 2 3)) ∷ pair (span 4 5) (bare (span 6 7)) ∷ []) ≡ true
 unfolding besides named words spells tagged begins
 one-more = refl
 

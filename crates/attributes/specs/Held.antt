@@ -56,6 +56,6 @@ abbrev pub attrAt : List ℕ → ℕ → Option QuotedOrUnquoted
 attrAt held k = attrFrom (attrWord held k kindAt) (span (attrWord held k startAt) (attrWord held k endAt))
 
 -- ---- all that one walk over a list says: where the list ends, and each lent word after it, which is what the list has under each of the names
-pub record LastOfEach (text : List ℕ) (at : ℕ) (names held₀ held : List ℕ) (end : ℕ) : Type 0 where
+pub record LastOfEach (text : List ℕ) (at : ℕ) (names sizes held₀ held : List ℕ) (end : ℕ) : Type 0 where
   pub ends : end ≡ stop (many0 nextPair text at)
-  pub holds : held ≡ laid (length held₀) (map (λ name. get text name (items (many0 nextPair text at))) (words names))
+  pub holds : held ≡ laid (length held₀) (map (λ name. get text name (items (many0 nextPair text at))) (words names sizes))

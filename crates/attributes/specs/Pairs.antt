@@ -3,7 +3,7 @@ use Prim.Native.Nat.{ℕ}
 use mathlib.Core.Bool.{Bool, false, not, cond, _||_}
 use mathlib.Core.List.{List, [], _∷_}
 use mathlib.Core.Option.{Option, none, some}
-use lib.Dec.{eqb}
+use lib.ListN.{take, drop}
 use Rattle.text.specs.Why.{missingByte}
 use Rattle.text.specs.Nom.{Parser, Span, bytes, tag, optTag, isNot, peekNoneOf, takeUntil, alt, map, preceded, _>>=_, done, space0}
 use Rattle.text.specs.Many.{many0, collected}
@@ -55,14 +55,10 @@ inserted text name held (pair left right ∷ ps) = inserted text name (cond (spe
 abbrev pub get : List ℕ → List ℕ → List Pair → Option QuotedOrUnquoted
 get text name ps = inserted text name none ps
 
--- ---- names that are written one after the other, a comma after each (the last may go without)
-abbrev pub onto : ℕ → List (List ℕ) → List (List ℕ)
-onto c [] = (c ∷ []) ∷ []
-onto c (w ∷ ws) = (c ∷ w) ∷ ws
-
-unfoldable pub words : List ℕ → List (List ℕ)
-words [] = []
-words (c ∷ s) = cond (eqb c 44) ([] ∷ words s) (onto c (words s))
+-- ---- names that are written one after the other, of these sizes (where the text is too short, a name has what is left)
+unfoldable pub words : List ℕ → List ℕ → List (List ℕ)
+words names [] = []
+words names (size ∷ sizes) = take size names ∷ words (drop size names) sizes
 
 -- is there a name besides these?
 unfoldable pub named : List ℕ → Span → List (List ℕ) → Bool

@@ -75,7 +75,7 @@ pub fn extmap(text: &[u8], at: usize) -> MapRes
     ensures { λ r. ⌜ mapRes r ≡ rule.extmap (now (text .entry)) at ⌝ }
 {
     let mut held = [0; MAP_WORDS];
-    let end = list::last_of_each(text, at, b"URI,BYTERANGE", &mut held);
+    let end = list::last_of_each(text, at, b"URIBYTERANGE", &[3, 9], &mut held);
     let uri = held::attr_at(&held, URI);
     let range = held::attr_at(&held, BYTERANGE);
     let Attr::Present(value) = uri else {

@@ -55,7 +55,7 @@ pub fn clip(out: &mut [u8], text: &[u8], tags: &[u64], tag_count: usize, c: Clip
     let range = segment.byte_range;
     let title = segment.title;
     let range_at = lines::map_lines(out, 0, text, map);
-    let mark_at = lines::range_between(out, range_at, b"#EXT-X-BYTERANGE:", range, b'\n');
+    let mark_at = lines::range_lines(out, range_at, range);
     let tags_at = put::copy_where(
         out,
         mark_at,

@@ -1,5 +1,7 @@
-// A line of each kind that a clip can have, at a place of the output.
+// A line of each kind that a clip can have, at a place of the output. What may be missing is asked for apart from its line: a line's fixed bytes are laid out as its
+// function begins.
 use assembly::segment::SegmentMap;
+use attributes::ext_map::Map;
 use attributes::ext_map::OptRange;
 use leaves::basic_tags::ExtTag;
 use leaves::util::ByteRange;
@@ -9,11 +11,10 @@ use text::Span;
 ghost use Rattle.text.specs.Answers.{spanOf, partOf};
 ghost use Rattle.text.specs.Spans.{shown, shownPart};
 ghost use Rattle.leaves.specs.Answers.{byteRangeOf, extTagOf};
-ghost use Rattle.attributes.specs.Answers.{optRangeOf};
+ghost use Rattle.attributes.specs.Answers.{optRangeOf, mapOf};
 ghost use Rattle.assembly.specs.Answers.{segmentMapOf};
 ghost use Rattle.put.specs.Put.{Puts};
-ghost use Rattle.playlist.specs.Lines.{extinfLine, uriLine, rangeBytes, restBytes, lineBytes, lineIf, linesText, mapLineOf, tagLineOf, titleText};
-ghost use Rattle.cliplines.specs.Inside.Between.{rangeBetween};
+ghost use Rattle.playlist.specs.Lines.{byteRangeLine, extinfLine, uriLine, rangeBytes, mapRangeBytes, restBytes, lineBytes, lineIf, linesText, mapLineOf, tagLineOf, titleText};
 
 // ---- byte ranges and the map
 
@@ -31,24 +32,46 @@ fn range_value(out: &mut [u8], at: usize, r: ByteRange) -> usize
     }
 }
 
-// A range with what stands around it.
-pub(crate) fn range_between(
-    out: &mut [u8],
-    at: usize,
-    before: &[u8],
-    r: OptRange,
-    last: u8,
-) -> usize
-    ensures { λ n. ⌜ Puts (now (out .entry)) at (rangeBetween (now (before .entry)) (optRangeOf r) last) (now (out .exit)) n ⌝ }
+fn range_line(out: &mut [u8], at: usize, r: ByteRange) -> usize
+    ensures { λ n. ⌜ Puts (now (out .entry)) at (lineBytes (byteRangeLine (byteRangeOf r))) (now (out .exit)) n ⌝ }
+{
+    let value = put::copy(out, at, b"#EXT-X-BYTERANGE:");
+    let end = range_value(out, value, r);
+    put::byte(out, end, b'\n')
+}
+
+pub(crate) fn range_lines(out: &mut [u8], at: usize, r: OptRange) -> usize
+    ensures { λ n. ⌜ Puts (now (out .entry)) at (linesText (lineIf byteRangeLine (optRangeOf r))) (now (out .exit)) n ⌝ }
+{
+    match r {
+        OptRange::Absent => at,
+        OptRange::Present(r) => range_line(out, at, r),
+    }
+}
+
+fn map_range(out: &mut [u8], at: usize, r: OptRange) -> usize
+    ensures { λ n. ⌜ Puts (now (out .entry)) at (mapRangeBytes (optRangeOf r)) (now (out .exit)) n ⌝ }
 {
     match r {
         OptRange::Absent => at,
         OptRange::Present(r) => {
-            let value = put::copy(out, at, before);
+            let value = put::copy(out, at, b",BYTERANGE=\"");
             let end = range_value(out, value, r);
-            put::byte(out, end, last)
+            put::byte(out, end, b'"')
         }
     }
+}
+
+fn map_line(out: &mut [u8], at: usize, text: &[u8], m: Map) -> usize
+    ensures { λ r. ⌜ Puts (now (out .entry)) at (lineBytes (mapLineOf (now (text .entry)) (mapOf m))) (now (out .exit)) r ⌝ }
+{
+    let uri = m.uri;
+    let range = m.byte_range;
+    let start = put::copy(out, at, b"#EXT-X-MAP:URI=\"");
+    let quote = put::shown(out, start, text, uri);
+    let comma = put::byte(out, quote, b'"');
+    let end = map_range(out, comma, range);
+    put::byte(out, end, b'\n')
 }
 
 pub(crate) fn map_lines(out: &mut [u8], at: usize, text: &[u8], m: SegmentMap) -> usize
@@ -56,15 +79,7 @@ pub(crate) fn map_lines(out: &mut [u8], at: usize, text: &[u8], m: SegmentMap) -
 {
     match m {
         SegmentMap::Absent => at,
-        SegmentMap::Is(m) => {
-            let uri = m.uri;
-            let range = m.byte_range;
-            let start = put::copy(out, at, b"#EXT-X-MAP:URI=\"");
-            let quote = put::shown(out, start, text, uri);
-            let comma = put::byte(out, quote, b'"');
-            let end = range_between(out, comma, b",BYTERANGE=\"", range, b'"');
-            put::byte(out, end, b'\n')
-        }
+        SegmentMap::Is(m) => map_line(out, at, text, m),
     }
 }
 

@@ -1,19 +1,21 @@
 -- Numbers by computation over the definitions: a refusal, a head out and in, and numbers that no head has. Assumes nothing.
+use Prim.Native.Nat.{ℕ}
 use mathlib.Core.Path.{_≡_, refl}
 use mathlib.Core.Bool.{true, false}
-use mathlib.Core.List.{[], _∷_, map}
+use mathlib.Core.List.{List, [], _∷_, map}
 use mathlib.Core.Option.{none, some}
 use Rattle.text.specs.Nom.{span}
-use Rattle.text.specs.BasicTags.{other}
+use Rattle.text.specs.BasicTags.{event, vod, other}
 use Rattle.tables.specs.Refusal.{refused, given, leftOutTag, noSuchClip}
-use Rattle.assembly.specs.Assembly.{head, emptyHead}
+use Rattle.assembly.specs.Assembly.{Head, head, emptyHead}
 use Rattle.window.specs.Window as window
 use Rattle.ledgerfern.specs.declared.Head as headᵈ
-use Rattle.ledgerfern.specs.Numbers.{verdictNumbers, valueNumbers, windowNumbers, headNumbers, readNumbers}
-use Rattle.ledgerfern.specs.Heads.{isVersion, isType, isHead, headOf}
+use Rattle.ledgerfern.specs.Numbers.{verdictNumbers, valueNumbers, windowNumbers, typeNumber, headNumbers, readNumbers}
+use Rattle.ledgerfern.specs.Heads.{isVersion, isType, isHead, typeFrom, headFrom, headOf}
 
-abbrev headᶻ : headᵈ.Head
-headᶻ = record {
+-- a head of zeros but for its marks
+abbrev marked : ℕ → ℕ → ℕ → headᵈ.Head
+marked e i n = record {
   «version_present» = 0;
   version = 0;
   «target_duration» = 0;
@@ -22,10 +24,13 @@ headᶻ = record {
   «playlist_type» = 0;
   «type_start» = 0;
   «type_end» = 0;
-  «end_list» = 0;
-  «i_frames_only» = 0;
-  «independent_segments» = 0;
+  «end_list» = e;
+  «i_frames_only» = i;
+  «independent_segments» = n;
 }
+
+abbrev headᶻ : headᵈ.Head
+headᶻ = marked 0 0 0
 
 -- * M`#EXT-X-KEY:METHOD=NONE\n`: 5 at 8, and zeros for all else
 refused-read : readNumbers (refused leftOutTag 8) ≡ record { number = 5; place = 8; clips = 0; tags = 0; stop = 0; head = headᶻ }
@@ -65,6 +70,23 @@ head-out = refl
 heads-in : map headOf (headᵗ ∷ headᶻ ∷ []) ≡ some (head (some 0) 9 2 0 (some (other (span 29 33))) true false false) ∷ some emptyHead ∷ []
 unfolding headOf isHead isVersion isType
 heads-in = refl
+
+-- "playlist type, absent, EVENT, VOD or another text's span", out and in
+types-out : map typeNumber (none ∷ some event ∷ some vod ∷ some (other (span 29 33)) ∷ []) ≡ 0 ∷ 1 ∷ 2 ∷ 3 ∷ []
+types-out = refl
+
+types-in : map (λ type. typeFrom type 29 33) (0 ∷ 1 ∷ 2 ∷ 3 ∷ []) ≡ none ∷ some event ∷ some vod ∷ some (other (span 29 33)) ∷ []
+types-in = refl
+
+-- "the marks end, I-frames only, independent", out and in: each alone
+abbrev three : List Head
+three = head none 0 0 0 none true false false ∷ head none 0 0 0 none false true false ∷ head none 0 0 0 none false false true ∷ []
+
+marks-out : map headNumbers three ≡ marked 1 0 0 ∷ marked 0 1 0 ∷ marked 0 0 1 ∷ []
+marks-out = refl
+
+marks-in : map headFrom (marked 1 0 0 ∷ marked 0 1 0 ∷ marked 0 0 1 ∷ []) ≡ three
+marks-in = refl
 
 -- a version beside an absent one
 no-versions : map (λ present. isVersion present 7) (0 ∷ 1 ∷ 2 ∷ []) ≡ false ∷ true ∷ false ∷ []

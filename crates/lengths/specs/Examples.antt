@@ -78,12 +78,17 @@ ten-told : endOf (durationTitleTag (bytes "1.1234567891,\n") 0) ≡ some (true, 
 unfolding durationTitleTag float counted isDigit runEnd run decimal tagged afterTag begins
 ten-told = refl
 
--- ---- * "bits: 0.1 s 3DCCCCCD, 9 s 41100000, 16777217 s as 16777216, 999999999.999999999 s 4E6E6B28", in one statement
+-- ---- "bits: 0.1 s 3DCCCCCD, 9 s 41100000, 16777217 s as 16777216, 999999999.999999999 s 4E6E6B28"; in the list of edges (`media`) they stand as a text
 bits :
     secondsBits 100000000 ∷ secondsBits 9000000000 ∷ secondsBits 16777217000000000 ∷ secondsBits 16777216000000000 ∷ secondsBits 999999999999999999 ∷ []
     ≡ 0x3DCCCCCD ∷ 0x41100000 ∷ 0x4B800000 ∷ 0x4B800000 ∷ 0x4E6E6B28 ∷ []
 unfolding secondsBits
 bits = refl
+
+-- "Tempting and wrong: .. rounding via a second float type": a binary64 would make 16777217 s of this, and the binary32 of that is 16777216 s
+rounded-once : secondsBits 16777217000000001 ≡ 0x4B800001
+unfolding secondsBits
+rounded-once = refl
 
 -- "0 s is all zero bits"
 pub zero-bits : secondsBits 0 ≡ 0

@@ -48,7 +48,20 @@ front-media : (v : Verdict) → Front (λ A x. unlessMaster v x) (v ≡ media)
 front-media (master hash) = record { on = λ x h. cc; passed = λ x a e. (cc, cc); refuses = λ x y f q k e. cc }
 front-media media = record { on = λ x h. refl; passed = λ x a e. (refl, e); refuses = λ x y f. f }
 
+front-text : (text : List ℕ) → Front (λ A x. andThen (admitted text) (unlessMaster (verdictOf text) x)) ((admitted text ≡ given tt) × (verdictOf text ≡ media))
+front-text text = front-then _ _ (front-admitted (admitted text)) (front-media (verdictOf text))
+
 module _ (step : Parser Taken) (text : List ℕ) where
+  -- what the first pass comes to, with refusals 1 to 4 before it
+  abbrev pub Passed : Answer Read → Type 0
+  Passed x = andThen (admitted text) (unlessMaster (verdictOf text) (firstPass step text)) ≡ x
+
+  pub weighed-on : {x : Answer Read} → weighed text ≡ given tt → firstPass step text ≡ x → Passed x
+  weighed-on k e = front-text text .on _ (front-text text .passed _ _ k .0) ∙ e
+
+  pub weighed-refused : {ρ : Refusal} {p : ℕ} → weighed text ≡ refused ρ p → Passed (refused ρ p)
+  weighed-refused {ρ} {p} k = front-text text .refuses _ _ (given-refuses _ _) ρ p k
+
   abbrev Fine : Type 0
   Fine = (admitted text ≡ given tt) × ((verdictOf text ≡ media) × NoneMet (stepsBy step text))
 
@@ -58,7 +71,7 @@ module _ (step : Parser Taken) (text : List ℕ) where
   abbrev last : State
   last = lastOf begin (stepsBy step text)
 
-  module _ {h : Head} {made kept n : ℕ} (k : weighed step text ≡ given (read h made kept n)) where
+  module _ {h : Head} {made kept n : ℕ} (k : Passed (given (read h made kept n))) where
     weighed-read : Fine × (_≡_ {A = Answer Read} (given (readFrom last (stopBy step text))) (given (read h made kept n)))
     unfolding firstPass
     weighed-read = front-weighed .passed _ _ k
@@ -86,11 +99,11 @@ module _ {R : Type 0} (view : R → Answer Read) {clips tags : List ℕ} {r : R}
   refuses ρ p e q = record { answered = e ∙ sym q; clips-after = rw q; tags-after = rw q }
 
 module _ (step : Parser Taken) {R : Type 0} (view : R → Answer Read) (text : List ℕ) {clips tags : List ℕ} {r : R} where
-  pub refused-first : {ρ : Refusal} {p : ℕ} → weighed step text ≡ refused ρ p → view r ≡ refused ρ p → ParsedBy step view text clips tags clips tags r
+  pub refused-first : {ρ : Refusal} {p : ℕ} → Passed step text (refused ρ p) → view r ≡ refused ρ p → ParsedBy step view text clips tags clips tags r
   unfolding firstPass
   refused-first {ρ} {p} q e = refuses view ρ p e (front-weighed step text .refuses _ _ (given-refuses _ _) ρ p q)
 
-  module _ {h : Head} {made kept n : ℕ} (k : weighed step text ≡ given (read h made kept n)) where
+  module _ {h : Head} {made kept n : ℕ} (k : Passed step text (given (read h made kept n))) where
     pub clips-short : clipsFit clips made ≡ false → view r ≡ refused clipTableShort 0 → ParsedBy step view text clips tags clips tags r
     unfolding fits
     clips-short f e = refuses view clipTableShort 0 e (weighed-answer step text k (length clips) (length tags) ∙ rw (weighed-clips step text k, f))

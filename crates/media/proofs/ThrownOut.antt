@@ -30,7 +30,7 @@ not-all-refused h =
 
 abbrev shown : Answer Outcome → ℕ
 shown (refused r p) = 0
-shown (given (outcome a cs ts)) = length cs
+shown (given (outcome a cs bs ts)) = length cs
 
 shown-none : (a : Answer Read) (ts : List ExtTag) → shown (outcomeOf a [] ts) ≡ 0
 shown-none (refused r p) ts = refl

@@ -7,11 +7,10 @@ use tables::record;
 use verdict::Admission;
 use verdict::lines::Verdict;
 ghost use mathlib.Core.Path.{_≡_};
-ghost use Rattle.tags.specs.Tags.{step};
+ghost use Rattle.verdict.specs.Answers.{admission};
 ghost use Rattle.media.specs.Calls as rule;
 ghost use Rattle.media.specs.Answers.{parseAnswer};
-ghost use Rattle.media.specs.Inside.Passes as inside;
-ghost use Rattle.media.specs.Inside.Passes.{countedOf};
+ghost use Rattle.media.specs.Inside.Passes.{weighed};
 
 pub mod state; // where a reading is and what it has counted
 pub mod reading; // the two passes
@@ -29,19 +28,18 @@ pub enum ParseAnswer {
     Given(Read),
 }
 
-// Refusals 1 to 6, or what there is to give.
-fn weigh(text: &[u8]) -> Counted
-    ensures { λ r. ⌜ countedOf r ≡ inside.weighed step (now (text .entry)) ⌝ }
+// Refusals 1 to 4.
+fn weigh(text: &[u8]) -> Admission
+    ensures { λ r. ⌜ admission r ≡ weighed (now (text .entry)) ⌝ }
 {
     match verdict::admit(text) {
-        Admission::Refused(r, place) => return Counted::Refused(r, place),
+        Admission::Refused(r, place) => return Admission::Refused(r, place),
         Admission::Admitted => {}
     }
     match verdict::verdict_of(text) {
-        Verdict::Master(hash) => return Counted::Refused(Refusal::IsMaster, hash),
-        Verdict::Media => {}
+        Verdict::Master(hash) => Admission::Refused(Refusal::IsMaster, hash),
+        Verdict::Media => Admission::Admitted,
     }
-    reading::count(text)
 }
 
 // Refusals 1, 2, 3, 4, then 5 or 6 whichever the reading meets first, 7, 8. A refused call leaves both tables as they were.
@@ -49,6 +47,11 @@ pub fn parse_media_playlist(text: &[u8], clips: &mut [u64], tags: &mut [u64]) ->
     ensures { λ r. ⌜ rule.ParsedAs parseAnswer (now (text .entry)) (now (clips .entry)) (now (tags .entry)) (now (clips .exit)) (now (tags .exit)) r ⌝ }
 {
     match weigh(text) {
+        Admission::Refused(r, place) => return ParseAnswer::Refused(r, place),
+        Admission::Admitted => {}
+    }
+    let at = reading::first_step(text);
+    match reading::count(text, at) {
         Counted::Refused(r, place) => ParseAnswer::Refused(r, place),
         Counted::Read(last) => {
             if !record::clips_fit(clips, last.clips) {
@@ -57,7 +60,7 @@ pub fn parse_media_playlist(text: &[u8], clips: &mut [u64], tags: &mut [u64]) ->
             if !record::tags_fit(tags, last.tags) {
                 return ParseAnswer::Refused(Refusal::TagTableShort, 0);
             }
-            reading::fill(text, clips, tags, last.tags);
+            reading::fill(text, at, clips, tags, last.tags);
             ParseAnswer::Given(last)
         }
     }

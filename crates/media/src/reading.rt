@@ -25,8 +25,8 @@ ghost use Rattle.media.specs.Calls.{firstStep};
 ghost use Rattle.media.specs.Inside.Passes as rule;
 ghost use Rattle.media.specs.Inside.Passes.{stateSeen, countedOf};
 
-// Where the first step begins: behind `#EXTM3U` and the blanks after it.
-fn first_step(text: &[u8]) -> usize
+// Where the first step begins, in both passes: behind `#EXTM3U` and the blanks after it.
+pub(crate) fn first_step(text: &[u8]) -> usize
     ensures { λ r. ⌜ r ≡ firstStep (now (text .entry)) ⌝ }
 {
     blocks::multispace0(text, 7)
@@ -88,10 +88,10 @@ pub enum Counted {
     Read(Read),
 }
 
-pub(crate) fn count(text: &[u8]) -> Counted
+pub(crate) fn count(text: &[u8], at: usize) -> Counted
+    requires { ⌜ at ≡ firstStep (now text) ⌝ }
     ensures { λ r. ⌜ countedOf r ≡ rule.firstPass step (now (text .entry)) ⌝ }
 {
-    let at = first_step(text);
     let mut c = Counts::new(at);
     let mut head = Head::empty();
     loop {
@@ -184,11 +184,12 @@ impl State {
 }
 
 // The second pass: each clip to the table of clips, and the first `kept` unknown tags to theirs.
-pub(crate) fn fill(text: &[u8], clips: &mut [u64], tags: &mut [u64], kept: usize)
+pub(crate) fn fill(text: &[u8], at: usize, clips: &mut [u64], tags: &mut [u64], kept: usize)
+    requires { ⌜ at ≡ firstStep (now text) ⌝ }
     requires { ⌜ rule.Fillable step (now text) kept (now clips) (now tags) ⌝ }
     ensures { λ _. ⌜ rule.Filled step (now (text .entry)) kept (now (clips .entry)) (now (tags .entry)) (now (clips .exit)) (now (tags .exit)) ⌝ }
 {
-    let mut s = State::new(first_step(text));
+    let mut s = State::new(at);
     loop {
         match s.step(text, clips, tags, kept) {
             Step::Stop => {

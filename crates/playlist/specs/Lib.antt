@@ -4,5 +4,7 @@ pub mod Lines
 pub mod Calls
 -- what the code's answers say in these words
 pub mod Answers
+-- worked examples
+pub mod Examples
 -- for inner contracts
 pub mod Inside

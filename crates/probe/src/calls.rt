@@ -5,6 +5,7 @@ use input::Input;
 use input::Taken;
 use ledgerfern::Head;
 use libc::STDIN_FILENO;
+use output::Waits;
 ghost use Prim.Native.Nat.{_≤_};
 ghost use lib.ListN.{length};
 
@@ -30,11 +31,11 @@ pub fn verdict(
 // The tables are printed as the call leaves them.
 fn read_and_print(
     to: &mut [u8; output::ROOM],
-    waits: usize,
+    waits: Waits,
     text: &[u8],
     clips: &mut [u64],
     tags: &mut [u64],
-) -> usize {
+) -> Waits {
     let given = ledgerfern::ledgerfern_read(text, clips, tags);
     lines::reader(to, waits, given, clips, tags)
 }
@@ -127,7 +128,7 @@ fn take_head(input: Input, from: &mut [u8; input::ROOM]) -> TakenHead {
 // The output is printed as the call leaves it.
 fn write_and_print(
     to: &mut [u8; output::ROOM],
-    waits: usize,
+    waits: Waits,
     text: &[u8],
     head: Head,
     clips: usize,
@@ -135,7 +136,7 @@ fn write_and_print(
     tags: usize,
     tag_words: &[u64],
     out: &mut [u8],
-) -> usize {
+) -> Waits {
     let given = ledgerfern::ledgerfern_write(text, head, clips, clip_words, tags, tag_words, out);
     lines::writer(to, waits, given, out)
 }
@@ -236,11 +237,11 @@ fn take_moment(op: u64, input: Input, from: &mut [u8; input::ROOM]) -> Moment {
 fn call_and_print(
     op: u64,
     to: &mut [u8; output::ROOM],
-    waits: usize,
+    waits: Waits,
     clips: usize,
     words: &[u64],
     m: Moment,
-) -> usize {
+) -> Waits {
     let given = match op {
         4 => ledgerfern::ledgerfern_total(clips, words),
         5 => ledgerfern::ledgerfern_start_tick(clips, words, m.rate, m.turn, m.clip),

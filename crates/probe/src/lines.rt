@@ -8,13 +8,14 @@ use ledgerfern::Window;
 use ledgerfern::Written;
 use libc::STDOUT_FILENO;
 use output::ROOM;
+use output::Waits;
 
-pub fn text(to: &mut [u8; ROOM], waits: usize, bytes: &[u8]) -> usize {
+pub fn text(to: &mut [u8; ROOM], waits: Waits, bytes: &[u8]) -> Waits {
     output::put_bytes(STDOUT_FILENO, to, waits, bytes)
 }
 
 // The last line of a run that stopped inside a record.
-pub fn stopped(to: &mut [u8; ROOM], waits: usize, stop: Stop) -> usize {
+pub fn stopped(to: &mut [u8; ROOM], waits: Waits, stop: Stop) -> Waits {
     match stop {
         Stop::TooLarge => text(to, waits, b"too large\n"),
         Stop::ReadFailed => text(to, waits, b"read failed\n"),
@@ -22,16 +23,16 @@ pub fn stopped(to: &mut [u8; ROOM], waits: usize, stop: Stop) -> usize {
     }
 }
 
-fn end_line(to: &mut [u8; ROOM], waits: usize) -> usize {
+fn end_line(to: &mut [u8; ROOM], waits: Waits) -> Waits {
     output::put_byte(STDOUT_FILENO, to, waits, b'\n')
 }
 
-fn field(to: &mut [u8; ROOM], waits: usize, number: u64) -> usize {
+fn field(to: &mut [u8; ROOM], waits: Waits, number: u64) -> Waits {
     let waits = output::put_byte(STDOUT_FILENO, to, waits, b' ');
     output::put_number(STDOUT_FILENO, to, waits, number)
 }
 
-fn fields(to: &mut [u8; ROOM], waits: usize, numbers: &[u64]) -> usize {
+fn fields(to: &mut [u8; ROOM], waits: Waits, numbers: &[u64]) -> Waits {
     let mut waits = waits;
     let mut k = 0usize;
     while k < numbers.len() {
@@ -41,7 +42,7 @@ fn fields(to: &mut [u8; ROOM], waits: usize, numbers: &[u64]) -> usize {
     waits
 }
 
-fn words(to: &mut [u8; ROOM], waits: usize, words: &[u64]) -> usize {
+fn words(to: &mut [u8; ROOM], waits: Waits, words: &[u64]) -> Waits {
     let waits = text(to, waits, b" |");
     fields(to, waits, words)
 }
@@ -49,29 +50,29 @@ fn words(to: &mut [u8; ROOM], waits: usize, words: &[u64]) -> usize {
 // Op, number and place, and the values.
 fn answer(
     to: &mut [u8; ROOM],
-    waits: usize,
+    waits: Waits,
     op: u64,
     number: u64,
     place: u64,
     values: &[u64],
-) -> usize {
+) -> Waits {
     let waits = output::put_number(STDOUT_FILENO, to, waits, op);
     let waits = field(to, waits, number);
     let waits = field(to, waits, place);
     fields(to, waits, values)
 }
 
-pub fn verdict(to: &mut [u8; ROOM], waits: usize, r: Verdict) -> usize {
+pub fn verdict(to: &mut [u8; ROOM], waits: Waits, r: Verdict) -> Waits {
     let waits = answer(to, waits, 1, r.number, r.place, &[r.master]);
     end_line(to, waits)
 }
 
-pub fn value(to: &mut [u8; ROOM], waits: usize, op: u64, r: Value) -> usize {
+pub fn value(to: &mut [u8; ROOM], waits: Waits, op: u64, r: Value) -> Waits {
     let waits = answer(to, waits, op, r.number, r.place, &[r.value]);
     end_line(to, waits)
 }
 
-pub fn window(to: &mut [u8; ROOM], waits: usize, r: Window) -> usize {
+pub fn window(to: &mut [u8; ROOM], waits: Waits, r: Window) -> Waits {
     let waits = answer(
         to,
         waits,
@@ -83,7 +84,7 @@ pub fn window(to: &mut [u8; ROOM], waits: usize, r: Window) -> usize {
     end_line(to, waits)
 }
 
-fn head(to: &mut [u8; ROOM], waits: usize, h: Head) -> usize {
+fn head(to: &mut [u8; ROOM], waits: Waits, h: Head) -> Waits {
     let numbers = [
         h.version_present,
         h.version,
@@ -101,7 +102,7 @@ fn head(to: &mut [u8; ROOM], waits: usize, h: Head) -> usize {
 }
 
 // The answer of the reader, and both tables as the call left them.
-pub fn reader(to: &mut [u8; ROOM], waits: usize, r: Read, clips: &[u64], tags: &[u64]) -> usize {
+pub fn reader(to: &mut [u8; ROOM], waits: Waits, r: Read, clips: &[u64], tags: &[u64]) -> Waits {
     let waits = answer(to, waits, 2, r.number, r.place, &[r.clips, r.tags, r.stop]);
     let h = r.head;
     let waits = head(to, waits, h);
@@ -119,7 +120,7 @@ fn hex_digit(n: u8) -> u8 {
 }
 
 // In lower-case hex.
-fn hex(to: &mut [u8; ROOM], waits: usize, bytes: &[u8]) -> usize {
+fn hex(to: &mut [u8; ROOM], waits: Waits, bytes: &[u8]) -> Waits {
     let mut waits = waits;
     let mut k = 0usize;
     while k < bytes.len() {
@@ -131,7 +132,7 @@ fn hex(to: &mut [u8; ROOM], waits: usize, bytes: &[u8]) -> usize {
 }
 
 // The answer of the writer, and the output as the call left it.
-pub fn writer(to: &mut [u8; ROOM], waits: usize, r: Written, out: &[u8]) -> usize {
+pub fn writer(to: &mut [u8; ROOM], waits: Waits, r: Written, out: &[u8]) -> Waits {
     let waits = answer(to, waits, 3, r.number, r.place, &[r.length]);
     let waits = text(to, waits, b" | ");
     let waits = if out.len() == 0 {

@@ -12,6 +12,7 @@ use input::Input;
 use input::Stop;
 use libc::STDIN_FILENO;
 use libc::STDOUT_FILENO;
+use output::Waits;
 
 mod calls; // for each op: its arguments, the call, its line
 mod lines; // what is printed
@@ -21,24 +22,25 @@ const TEXT_ROOM: usize = 140_000;
 
 const WORD_ROOM: usize = 70_000;
 
-// Where a run stands: its input, and how many bytes of output wait.
+// Where a run stands: its input, and what of its output waits.
 pub struct State {
     pub input: Input,
-    pub waits: usize,
+    pub waits: Waits,
 }
 
-// After a record: the next state, or how many bytes wait with the last line.
+// After a record: the next state, or what waits with the last line.
 enum Step {
     Next(State),
-    Last(usize),
+    Last(Waits),
 }
 
 // A record that was cut off, or was too large, ends the run.
 fn after_record(s: State, to: &mut [u8; output::ROOM]) -> Step {
     let input = s.input;
+    let waits = s.waits;
     let stop = input.stop;
     if stop.happened() {
-        return Step::Last(lines::stopped(to, s.waits, stop));
+        return Step::Last(lines::stopped(to, waits, stop));
     }
     Step::Next(s)
 }
@@ -53,12 +55,13 @@ fn call(
     tags: &mut [u64; WORD_ROOM],
     out: &mut [u8; TEXT_ROOM],
 ) -> Step {
+    let waits = s.waits;
     let next = match op {
         1 => calls::verdict(s, from, to, text),
         2 => calls::reader(s, from, to, text, clips, tags),
         3 => calls::writer(s, from, to, text, clips, tags, out),
         4..=7 => calls::over_clips(op, s, from, to, clips),
-        _ => return Step::Last(lines::text(to, s.waits, b"unknown op\n")),
+        _ => return Step::Last(lines::text(to, waits, b"unknown op\n")),
     };
     after_record(next, to)
 }
@@ -101,10 +104,10 @@ fn run(
     clips: &mut [u64; WORD_ROOM],
     tags: &mut [u64; WORD_ROOM],
     out: &mut [u8; TEXT_ROOM],
-) -> usize {
+) -> Waits {
     let mut s = State {
         input: Input::new(),
-        waits: 0,
+        waits: Waits::none(),
     };
     let mut records = u64::MAX;
     while records > 0 {
@@ -132,6 +135,6 @@ fn main() {
         &mut tags,
         &mut out,
     );
-    // Whether it went needs no word: a reader that finds no last line knows.
+    // Whether it went needs no word: after a write that failed nothing is written, and a reader that finds no last line knows.
     output::flush(STDOUT_FILENO, &to, waits);
 }

@@ -61,5 +61,15 @@ pub mod Utf8
 pub mod Round
 -- what the reader gives keeps rule 9
 pub mod Keeps
+-- what an accepted reading leaves in its tables
+pub mod Held
 -- what was read can be written
 pub mod Writing
+-- the same list has the same float bits
+pub mod Bits
+-- the round trip by what the calls promise
+pub mod Calls
+-- and by what the face promises
+pub mod Face
+-- where a reading stops
+pub mod Stops

@@ -6,7 +6,7 @@ use mathlib.Core.List.{List, [], _∷_, _++_, append-assoc}
 use mathlib.Core.Option.{Option, none, some}
 use native.Mathlib.Omega.{arith}
 use lib.Dec.{ltb}
-use lib.ListN.{length, drop, length-append, length-drop}
+use lib.ListN.{length, drop, getD, length-append, length-drop}
 use borrow.Author.Tests.{ne-eqb, lt-ltb}
 use Rattle.text.specs.Why.{otherText}
 use Rattle.text.specs.Nom.{fail, ok, bytes, isOneOf, isNoneOf, begins, tagged, alt}
@@ -14,7 +14,7 @@ use Rattle.text.specs.BasicTags.{ExtTag, PlaylistType}
 use Rattle.text.specs.Lines.{unlines}
 use Rattle.text.proofs.Ahead.{Every, every-append, on, run-ahead, tag-ahead, line-ahead}
 use Rattle.digits.specs.Digits.{numberText}
-use Rattle.verdict.specs.Verdict.{masterKind, mediaKind, playlistKind, segmentKind, nothing, decides, isMasterPlaylistTagLine, media, verdictFrom}
+use Rattle.verdict.specs.Verdict.{literal as nameText, mediaName, playlistNames, masterKind, mediaKind, playlistKind, segmentKind, nothing, decides, isMasterPlaylistTagLine, media, verdictFrom}
 use Rattle.verdict.specs.Calls.{header, verdictOf}
 use Rattle.verdict.proofs.FirstSaid.{verdict-step}
 use Rattle.assembly.specs.Assembly.{Head, head, Clip}
@@ -64,6 +64,10 @@ module _ (text : List ℕ) (at : ℕ) (nl : List ℕ) (breaks : Every isBreak nl
       rw (there _ d, run-ahead text at isBreak nl _ breaks refl d, known m h, line-ahead text (m + length (35 ∷ t)) b xs within (on text m (35 ∷ t) _ h))
 
 -- ---- what the tags of the verdict make of the lines that may stand first
+-- the name that the target duration has there: the first of those that say media
+abbrev targetName : List ℕ
+targetName = nameText (getD playlistNames 0 mediaName)
+
 module _ (text : List ℕ) (at : ℕ) (xs : List ℕ) where
   at-version : drop at text ≡ literal versionRow ++ xs → alt masterKind mediaKind text at ≡ fail otherText
   unfolding masterKind mediaKind playlistKind segmentKind tagged begins
@@ -73,7 +77,7 @@ module _ (text : List ℕ) (at : ℕ) (xs : List ℕ) where
   unfolding masterKind mediaKind playlistKind segmentKind tagged begins
   at-independent h = rw h
 
-  at-target : drop at text ≡ bytes "#EXT-X-TARGETDURATION" ++ xs → alt masterKind mediaKind text at ≡ ok false (at + 21)
+  at-target : drop at text ≡ targetName ++ xs → alt masterKind mediaKind text at ≡ ok false (at + length targetName)
   unfolding masterKind mediaKind playlistKind segmentKind tagged begins
   at-target h = rw h
 
@@ -83,7 +87,7 @@ module _ (text : List ℕ) (d : ℕ) (rest : List Line) where
   unfolding unlines Every
   target-media at nl breaks h =
       let xs = unlines lineBytes rest in
-      let t = bytes "EXT-X-TARGETDURATION" in
+      let t = drop 1 targetName in
       let h0 : drop at text ≡ nl ++ (35 ∷ t ++ ((58 ∷ numberText d) ++ (bytes "\n" ++ xs))) = h ∙ rw (append-assoc (numberText d) (bytes "\n") xs) in
       verdict-step text at _ _ (line-decides text at nl breaks (58 ∷ numberText d) xs (refl, number-in-line d) t h0 (λ m. at-target text m _))
 
@@ -91,7 +95,7 @@ module _ (text : List ℕ) (d : ℕ) (rest : List Line) where
   unfolding unlines all Every
   independent-media false at nl breaks h = target-media at nl breaks h
   independent-media true at nl breaks h =
-      let b = bytes "EXT-X-INDEPENDENT-SEGMENTS" in
+      let b = drop 1 (literal independentSegmentsRow) in
       let e = every-all inLine b refl in
       let q = line-quiet text at nl breaks b _ e h (λ m. at-independent text m _) in
       verdict-step text at _ _ q ∙ target-media _ [] tt (after-line text at nl breaks b _ e h)
@@ -101,7 +105,7 @@ module _ (text : List ℕ) (d : ℕ) (rest : List Line) where
   unfolding unlines all Every
   version-media none n at nl breaks h = independent-media n at nl breaks h
   version-media (some v) n at nl breaks h =
-      let b = bytes "EXT-X-VERSION:" in
+      let b = drop 1 (literal versionRow) in
       let e = every-append inLine b (numberText v) (every-all inLine b refl) (number-in-line v) in
       let xs = unlines lineBytes (lineWhere independentSegmentsLine n ++ targetDurationLine d ∷ rest) in
       let h0 : drop at text ≡ nl ++ (35 ∷ (b ++ numberText v) ++ (bytes "\n" ++ xs)) = h ∙ rw (append-assoc (numberText v) (bytes "\n") xs) in

@@ -67,8 +67,11 @@ module _ (text : List ℕ) (clipRoom tagRoom : ℕ) (h : Head) (clips tags stop 
       → plainUris text (clipsRead text) ≡ true
       → noneNamedMap text (tagsRead text) ≡ true
       → length (writtenOf text h) ≤ textLimit
-      → ReadsBack text clipRoom tagRoom h clips tags
-  round-trip e uris names short =
+      → (clipRoom₁ tagRoom₁ : ℕ)
+      → clips * clipWords ≤ clipRoom₁
+      → tags * tagWords ≤ tagRoom₁
+      → ReadsBack text clipRoom₁ tagRoom₁ h clips tags
+  round-trip e uris names short clipRoom₁ tagRoom₁ clips-fit tags-fit =
       let k = accepted-parts text clipRoom tagRoom (read h clips tags stop) e in
       let q = k .answer in
       let z : headRead text ≡ h = cc in
@@ -80,13 +83,13 @@ module _ (text : List ℕ) (clipRoom tagRoom : ℕ) (h : Head) (clips tags stop 
       let let-in : Admitted v = record { short = rw z short; utf8 = valid; begins-so = header-there text (headRead text) (clipsRead text) (tagsRead text) } in
       let counts : clipCount (lastOf begin (stepsOf text)) ≡ clips = cc in
       let kept : keptTags (lastOf begin (stepsOf text)) ≡ tags = cc in
-      let back : Accepted v clipRoom tagRoom (read (headRead v) clips tags (length v)) =
+      let back : Accepted v clipRoom₁ tagRoom₁ (read (headRead v) clips tags (length v)) =
       record {
         admits = admits v let-in;
         is-media = verdict-media text (headRead text) (clipsRead text) (tagsRead text);
-        clips-fit = ap (λ (n : ℕ). leb (n * clipWords) clipRoom) (sym (same .count)) ∙ k .clips-fit;
-        tags-fit = ap (λ (n : ℕ). leb (n * tagWords) tagRoom) (sym (same .kept)) ∙ k .tags-fit;
+        clips-fit = ap (λ (n : ℕ). leb (n * clipWords) clipRoom₁) (sym (same .count) ∙ counts) ∙ le-leb (clips * clipWords) clipRoom₁ clips-fit;
+        tags-fit = ap (λ (n : ℕ). leb (n * tagWords) tagRoom₁) (sym (same .kept) ∙ kept) ∙ le-leb (tags * tagWords) tagRoom₁ tags-fit;
         answer = rw (← same .count, ← same .kept, counts, kept, stops-again text sound uris names);
       } in
-      let accepts = parts-accepted v clipRoom tagRoom (read (headRead v) clips tags (length v)) back (λ x. again-met text v x (says-again text sound uris names)) in
+      let accepts = parts-accepted v clipRoom₁ tagRoom₁ (read (headRead v) clips tags (length v)) back (λ x. again-met text v x (says-again text sound uris names)) in
       rw (← z) (record { head = headRead v; accepted = accepts; same = rw (same .list) (same-refl _) })

@@ -1,65 +1,23 @@
 -- What was read can be written, with the tables as the reader left them: it keeps rule 9, and the lines are those of the list. Assumes nothing.
 use Prim.Native.Nat.{ℕ}
-use mathlib.Core.Path.{_≡_, sym, _∙_}
-use mathlib.Core.Bool.{Bool}
-use mathlib.Core.List.{List, [], _∷_}
-use mathlib.Core.Option.{Option, none, some}
-use native.Mathlib.Omega.{arith}
+use mathlib.Core.Path.{_≡_}
+use mathlib.Core.List.{List}
 use lib.ListN.{length}
-use Rattle.text.specs.Nom.{Span, span, bytes, isNoneOf}
-use Rattle.text.specs.BasicTags.{ExtTag, ext}
 use Rattle.tables.specs.Refusal.{given}
-use Rattle.assembly.specs.Assembly.{Head, segment, Clip, clip, begin, lastOf, clipCount, keptTags}
+use Rattle.assembly.specs.Assembly.{Head}
 use Rattle.media.specs.Calls.{stepsOf, read, parseMediaPlaylist, clipsRead, tagsRead}
-use Rattle.assembly.proofs.Counts.{count-clips}
-use Rattle.records.proofs.Back.{All, RealPart, RealClip, RealTag, clips-back, tags-back}
 use Rattle.playlist.specs.Calls.{writtenText}
 use Rattle.roundtrip.specs.RoundTrip.{Writes}
-use Rattle.roundtrip.proofs.Gives.{If, Shows}
-use Rattle.roundtrip.proofs.Told.{clips-adjoin, kept-length}
-use Rattle.roundtrip.proofs.Taken.{all-sound}
-use Rattle.roundtrip.proofs.Guaranteed.{SoundClipOf, SoundTagOf, list-sound}
-use Rattle.roundtrip.proofs.Again.{headRead}
-use Rattle.roundtrip.proofs.Accepted.{accepted-parts}
+use Rattle.roundtrip.proofs.Told.{clips-adjoin}
+use Rattle.roundtrip.proofs.Held.{tables-hold}
 use Rattle.roundtrip.proofs.Keeps.{reader-keeps}
-
--- ---- a part that is there ends past 0
-module _ (text : List ℕ) where
-  part-real : (p : ℕ → Bool) (t : Option Span) → If (Shows p text) t → RealPart t
-  part-real p none h = tt
-  part-real p (some (span a b)) h = omega (arith, h .long)
-
-  clips-real : (cs : List Clip) → All (SoundClipOf text) cs → All RealClip cs
-  unfolding All
-  clips-real [] h = tt
-  clips-real (clip u (segment l t r d m) f n ∷ cs) h = (part-real (isNoneOf (bytes "\r\n,")) t (h .0 .1 .title), clips-real cs (h .1))
-
-  tags-real : (ts : List ExtTag) → All (SoundTagOf text) ts → All RealTag ts
-  unfolding All
-  tags-real [] h = tt
-  tags-real (ext name rest ∷ ts) h = (part-real (isNoneOf (bytes "\r\n")) rest (h .0 .0 .1), tags-real ts (h .1))
-
-  count-read : clipCount (lastOf begin (stepsOf text)) ≡ length (clipsRead text)
-  unfolding clipsRead
-  count-read = omega (arith, count-clips begin (stepsOf text))
-
-  tags-count-read : keptTags (lastOf begin (stepsOf text)) ≡ length (tagsRead text)
-  unfolding tagsRead
-  tags-count-read = sym (kept-length (stepsOf text))
 
 module _ (text clips tags : List ℕ) (h : Head) (n m stop : ℕ) where
   pub reader-writes : parseMediaPlaylist text (length clips) (length tags) ≡ given (read h n m stop) → Writes text clips tags h n m
   unfolding writtenText clipsRead tagsRead
   reader-writes e =
-      let k = accepted-parts text (length clips) (length tags) (read h n m stop) e in
-      let q = k .answer in
-      let z : headRead text ≡ h = cc in
-      let c : clipCount (lastOf begin (stepsOf text)) ≡ n = cc in
-      let g : keptTags (lastOf begin (stepsOf text)) ≡ m = cc in
-      let sound = list-sound text (all-sound text (k .admits)) in
-      let cn : length (clipsRead text) ≡ n = sym (count-read text) ∙ c in
-      let gm : length (tagsRead text) ≡ m = sym (tags-count-read text) ∙ g in
-      rw (← z, ← cn, ← gm) (record {
-        keeps = reader-keeps text sound (clips-adjoin (stepsOf text)) _ _;
-        writes = rw (clips-back (clipsRead text) _ (clips-real text (clipsRead text) (sound .clips)), tags-back (tagsRead text) _ (tags-real text (tagsRead text) (sound .tags)));
-      })
+      let held = tables-hold text clips tags h n m stop e in
+      record {
+        keeps = rw (← held .head-read, ← held .clips-many, ← held .tags-many) (reader-keeps text (held .sound) (clips-adjoin (stepsOf text)) _ _);
+        writes = rw (held .clips-hold, held .tags-hold);
+      }

@@ -29,7 +29,7 @@ pub record Writes (text clips tags : List ℕ) (h : Head) (n m : ℕ) : Type 0 w
   pub keeps : keepsRule text h (clipsAfter text clips) n (tagsAfter text tags) m ≡ true
   pub writes : writtenText text h (clipsAfter text clips) n (tagsAfter text tags) m ≡ writtenOf text h
 
--- with tables of the same sizes the text is accepted, read to its end with as many clips and tags, and the list is the same
+-- with tables of these sizes the text is accepted, read to its end with as many clips and tags, and the list is the same
 pub record ReadsBack (text : List ℕ) (clipRoom tagRoom : ℕ) (h : Head) (n m : ℕ) : Type 0 where
   pub head : Head
   pub accepted : parseMediaPlaylist (writtenOf text h) clipRoom tagRoom ≡ given (read head n m (length (writtenOf text h)))

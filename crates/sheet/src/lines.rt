@@ -1,33 +1,48 @@
-// What is printed. Each function takes how many bytes of output wait, if any do, and answers how many wait after it.
+// What is printed. Each function takes what waits in the output, and answers what waits after it; `sheet` and `refused` print the whole.
 use clock::starts::Row;
 use clock::starts::Starts;
 use clock::starts::Step;
 use libc::STDOUT_FILENO;
 use output::ROOM;
+use output::Waits;
 use tables::layout;
 use tables::record;
+ghost use mathlib.Core.Path.{_≡_};
+ghost use Rattle.output.specs.Puts.{Puts, PutsFirst};
+ghost use Rattle.clock.specs.Answers.{cursorOf, rowOf};
+ghost use Rattle.clock.specs.Starts.{next};
+ghost use Rattle.sheet.specs.Sheet as rule;
+ghost use Rattle.sheet.specs.Inside.Pass as inside;
 
 // The only line of a refused text.
-pub fn refused(to: &mut [u8; ROOM], number: u64, place: usize) -> usize {
-    let waits = output::put_bytes(STDOUT_FILENO, to, 0, b"refused ");
+pub fn refused(to: &mut [u8; ROOM], number: u64, place: usize) -> Waits
+    ensures { λ r. ⌜ PutsFirst (now (to .exit)) r (rule.refusedLine number place) ⌝ }
+{
+    let waits = output::put_bytes(STDOUT_FILENO, to, Waits::none(), b"refused ");
     let waits = output::put_number(STDOUT_FILENO, to, waits, number);
     let waits = output::put_bytes(STDOUT_FILENO, to, waits, b" at ");
     number_line(to, waits, place as u64)
 }
 
-fn number_line(to: &mut [u8; ROOM], waits: usize, number: u64) -> usize {
+fn number_line(to: &mut [u8; ROOM], waits: Waits, number: u64) -> Waits
+    ensures { λ r. ⌜ Puts (now (to .entry)) (now (to .exit)) waits r (rule.numberLine number) ⌝ }
+{
     let waits = output::put_number(STDOUT_FILENO, to, waits, number);
     output::put_byte(STDOUT_FILENO, to, waits, b'\n')
 }
 
 // A number that more fields follow.
-fn field(to: &mut [u8; ROOM], waits: usize, number: u64) -> usize {
+fn field(to: &mut [u8; ROOM], waits: Waits, number: u64) -> Waits
+    ensures { λ r. ⌜ Puts (now (to .entry)) (now (to .exit)) waits r (rule.field number) ⌝ }
+{
     let waits = output::put_number(STDOUT_FILENO, to, waits, number);
     output::put_byte(STDOUT_FILENO, to, waits, b'\t')
 }
 
 // Number, start, length and tick as the cursor has them; the URI's bytes as they stand in the text.
-fn clip(to: &mut [u8; ROOM], waits: usize, text: &[u8], words: &[u64], row: Row) -> usize {
+fn clip(to: &mut [u8; ROOM], waits: Waits, text: &[u8], words: &[u64], row: Row) -> Waits
+    ensures { λ r. ⌜ Puts (now (to .entry)) (now (to .exit)) waits r (inside.rowLine (now (text .entry)) (now (words .entry)) (rowOf row)) ⌝ }
+{
     let start = record::clip_word(words, row.clip, layout::URI_START);
     let end = record::clip_word(words, row.clip, layout::URI_END);
     let waits = field(to, waits, row.clip as u64);
@@ -38,28 +53,34 @@ fn clip(to: &mut [u8; ROOM], waits: usize, text: &[u8], words: &[u64], row: Row)
     output::put_byte(STDOUT_FILENO, to, waits, b'\n')
 }
 
-// Where the printing stands: the cursor before the next clip, and how many bytes wait.
-struct Printed {
+// Where the printing stands: the cursor before the next clip, and what waits.
+struct Pass {
     starts: Starts,
-    waits: usize,
+    waits: Waits,
 }
 
 // Over the words that the cursor was made with no step is refused, so that but for a clip there is nothing to print.
-fn next_clip(to: &mut [u8; ROOM], s: Printed, text: &[u8], words: &[u64]) -> Printed {
+fn next_clip(to: &mut [u8; ROOM], s: Pass, text: &[u8], words: &[u64]) -> Pass
+    ensures moved { λ r. ⌜ cursorOf (r .starts) ≡ inside.stepAfter (cursorOf (s .starts)) (next (now (words .entry)) (cursorOf (s .starts))) ⌝ }
+    ensures puts { λ r. ⌜ Puts (now (to .entry)) (now (to .exit)) (s .waits) (r .waits) (inside.stepLine (now (text .entry)) (now (words .entry)) (next (now (words .entry)) (cursorOf (s .starts)))) ⌝ }
+{
     let starts = s.starts;
+    let waits = s.waits;
     match starts.next(words) {
-        Step::Clip(row, after) => Printed {
+        Step::Clip(row, after) => Pass {
             starts: after,
-            waits: clip(to, s.waits, text, words, row),
+            waits: clip(to, waits, text, words, row),
         },
         _ => s,
     }
 }
 
 // One step for each clip.
-fn clips(to: &mut [u8; ROOM], waits: usize, text: &[u8], words: &[u64], starts: Starts) -> usize {
+fn clips(to: &mut [u8; ROOM], waits: Waits, text: &[u8], words: &[u64], starts: Starts) -> Waits
+    ensures { λ r. ⌜ Puts (now (to .entry)) (now (to .exit)) waits r (inside.passLines (now (text .entry)) (now (words .entry)) (cursorOf starts) (starts .clips)) ⌝ }
+{
     let clips = starts.clips;
-    let mut s = Printed { starts, waits };
+    let mut s = Pass { starts, waits };
     let mut k = 0usize;
     while k < clips {
         s = next_clip(to, s, text, words);
@@ -68,9 +89,11 @@ fn clips(to: &mut [u8; ROOM], waits: usize, text: &[u8], words: &[u64], starts: 
     s.waits
 }
 
-pub fn sheet(to: &mut [u8; ROOM], text: &[u8], words: &[u64], starts: Starts) -> usize {
+pub fn sheet(to: &mut [u8; ROOM], text: &[u8], words: &[u64], starts: Starts) -> Waits
+    ensures { λ r. ⌜ PutsFirst (now (to .exit)) r (inside.passSheet (now (text .entry)) (now (words .entry)) (cursorOf starts)) ⌝ }
+{
     let header = b"clip\tstart\tlength\ttick\turi\n";
-    let waits = output::put_bytes(STDOUT_FILENO, to, 0, header);
+    let waits = output::put_bytes(STDOUT_FILENO, to, Waits::none(), header);
     let waits = clips(to, waits, text, words, starts);
     let waits = output::put_bytes(STDOUT_FILENO, to, waits, b"total\t");
     number_line(to, waits, starts.total)

@@ -2,7 +2,7 @@
 use Prim.Native.Nat.{ℕ}
 use Prim.Native.String.{String}
 use mathlib.Core.Path.{_≡_, refl}
-use mathlib.Core.List.{List}
+use mathlib.Core.List.{List, [], _∷_, map}
 use mathlib.Core.Option.{Option, none, some}
 use Rattle.text.specs.Why.{otherText, noDigits, tooLarge, missingByte, noUri, uriNotQuoted, loneCr}
 use Rattle.text.specs.Many.{many0, manyTurns}
@@ -12,7 +12,7 @@ use Rattle.text.specs.BasicTags.{ext, extTag, commentTag, vod, playlistType}
 use Rattle.attributes.specs.Pairs.{quoted, unquoted, keyValuePair, nextPair, keyValuePairs, inserted}
 use Rattle.attributes.specs.ExtMap.{extMap, extmap}
 use Rattle.lengths.specs.Duration.{counted, ns, float, extinf, durationTitleTag}
-use Rattle.tags.specs.Tags.{version, targetDuration, mediaSequence, discontinuitySequence, typed, iFramesOnly, independentSegments, endList, timed, ranged, discontinuity, mapped, key, Tag, ofHead, ofClip, unknown, comment, uri, leftOut, Row, matched, matchedRow, playlistRows, playlistTag, segmentRows, segmentTag, otherTag, mediaSegmentTag, mediaPlaylistTag, alternativeOf, took, step}
+use Rattle.tags.specs.Tags.{version, targetDuration, mediaSequence, discontinuitySequence, typed, iFramesOnly, independentSegments, endList, timed, ranged, discontinuity, mapped, start, key, programDateTime, dateRange, Tag, ofHead, ofClip, unknown, comment, uri, leftOut, Row, matched, matchedRow, playlistRows, playlistTag, segmentRows, segmentTag, otherTag, mediaSegmentTag, mediaPlaylistTag, alternativeOf, took, step}
 
 -- what is taken at a text's start
 unfoldable pub taken : String → Res Tag
@@ -74,6 +74,17 @@ of-map = (refl, refl)
 of-key : (taken "#EXT-X-KEY:METHOD=NONE\n" ≡ ok (leftOut key) 11) × (taken "#EXT-X-KEY\n" ≡ ok (unknown (ext (span 5 10) none)) 11)
 unfolding taken
 of-key = (refl, refl)
+
+-- "four tags .. each with its colon": with it each is left out, by its name; "Without the colon they are read as the crate reads them"
+of-left-out : map taken ("#EXT-X-START:" ∷ "#EXT-X-KEY:" ∷ "#EXT-X-PROGRAM-DATE-TIME:" ∷ "#EXT-X-DATERANGE:" ∷ [])
+    ≡ ok (leftOut start) 13 ∷ ok (leftOut key) 11 ∷ ok (leftOut programDateTime) 25 ∷ ok (leftOut dateRange) 17 ∷ []
+unfolding taken
+of-left-out = refl
+
+of-no-colon : map taken ("#EXT-X-START\n" ∷ "#EXT-X-PROGRAM-DATE-TIME\n" ∷ "#EXT-X-DATERANGE\n" ∷ [])
+    ≡ ok (unknown (ext (span 5 12) none)) 13 ∷ ok (unknown (ext (span 5 24) none)) 25 ∷ ok (unknown (ext (span 5 16) none)) 17 ∷ []
+unfolding taken
+of-no-colon = refl
 
 -- ---- what else may stand there
 -- without its line end a tag is a URI, and so is a comment

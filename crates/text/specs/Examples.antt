@@ -1,15 +1,16 @@
 -- Worked examples, by computation: for each rule a text that it takes and one that it refuses. Assumes nothing.
-use Prim.Native.Nat.{_^_, _-_}
+use Prim.Native.Nat.{ℕ, _^_, _-_}
 use mathlib.Core.Bool.{true, false}
 use mathlib.Core.Path.{_≡_, refl}
-use mathlib.Core.List.{[], _∷_}
+use mathlib.Core.List.{List, [], _∷_, map}
 use mathlib.Core.Option.{none, some}
+use lib.ListN.{replicate}
 use Rattle.text.specs.Why.{otherText, noDigits, tooLarge, missingByte, typeEmpty, nameEmpty, loneCr}
 use Rattle.text.specs.Nom.{fail, ok, span, bytes, isDigit, begins, tagged, afterTag, run, runEnd, decimal}
 use Rattle.text.specs.Many.{many0, manyTurns}
 use Rattle.text.specs.Utf8.{utf8End, utf8Char, row2, row3, row4, byteIn}
 use Rattle.text.specs.Util.{consumeLine, parsed, number, numberOrZero, byteRangeVal, range, spells}
-use Rattle.text.specs.BasicTags.{m3uTag, extTag, ext, commentTag, playlistType, event, other}
+use Rattle.text.specs.BasicTags.{m3uTag, extTag, ext, commentTag, playlistType, event, vod, other}
 
 -- ---- UTF-8
 euro : utf8End (0x61 ∷ 0xE2 ∷ 0x82 ∷ 0xAC ∷ 0x62 ∷ []) 0 ≡ 5
@@ -27,6 +28,66 @@ overlong = refl
 above : utf8End (0xF4 ∷ 0x90 ∷ 0x80 ∷ 0x80 ∷ []) 0 ≡ 0
 unfolding utf8End many0 manyTurns utf8Char row2 row3 row4 byteIn
 above = refl
+
+-- RFC 3629, section 4: of each row the lowest and the highest character
+abbrev ends : List (List ℕ) → List ℕ
+ends = map (λ cs. utf8End cs 0)
+
+corners :
+    ends
+    ((0x00 ∷ [])
+    ∷ (0x7F ∷ [])
+    ∷ (0xC2 ∷ 0x80 ∷ [])
+    ∷ (0xDF ∷ 0xBF ∷ [])
+    ∷ (0xE0 ∷ 0xA0 ∷ 0x80 ∷ [])
+    ∷ (0xE0 ∷ 0xBF ∷ 0xBF ∷ [])
+    ∷ (0xE1 ∷ 0x80 ∷ 0x80 ∷ [])
+    ∷ (0xEC ∷ 0xBF ∷ 0xBF ∷ [])
+    ∷ (0xED ∷ 0x80 ∷ 0x80 ∷ [])
+    ∷ (0xED ∷ 0x9F ∷ 0xBF ∷ [])
+    ∷ (0xEE ∷ 0x80 ∷ 0x80 ∷ [])
+    ∷ (0xEF ∷ 0xBF ∷ 0xBF ∷ [])
+    ∷ (0xF0 ∷ 0x90 ∷ 0x80 ∷ 0x80 ∷ [])
+    ∷ (0xF0 ∷ 0xBF ∷ 0xBF ∷ 0xBF ∷ [])
+    ∷ (0xF1 ∷ 0x80 ∷ 0x80 ∷ 0x80 ∷ [])
+    ∷ (0xF3 ∷ 0xBF ∷ 0xBF ∷ 0xBF ∷ [])
+    ∷ (0xF4 ∷ 0x80 ∷ 0x80 ∷ 0x80 ∷ [])
+    ∷ (0xF4 ∷ 0x8F ∷ 0xBF ∷ 0xBF ∷ [])
+    ∷ [])
+    ≡ 1 ∷ 1 ∷ 2 ∷ 2 ∷ 3 ∷ 3 ∷ 3 ∷ 3 ∷ 3 ∷ 3 ∷ 3 ∷ 3 ∷ 4 ∷ 4 ∷ 4 ∷ 4 ∷ 4 ∷ 4 ∷ []
+unfolding utf8End many0 manyTurns utf8Char row2 row3 row4 byteIn
+corners = refl
+
+-- and with a first byte, a second byte or a tail one below or one above it is none
+beyond :
+    ends
+    ((0x80 ∷ [])
+    ∷ (0xC1 ∷ 0xBF ∷ [])
+    ∷ (0xC2 ∷ 0x7F ∷ [])
+    ∷ (0xDF ∷ 0xC0 ∷ [])
+    ∷ (0xE0 ∷ 0x9F ∷ 0xBF ∷ [])
+    ∷ (0xE0 ∷ 0xC0 ∷ 0x80 ∷ [])
+    ∷ (0xE1 ∷ 0x7F ∷ 0xBF ∷ [])
+    ∷ (0xEC ∷ 0xC0 ∷ 0x80 ∷ [])
+    ∷ (0xED ∷ 0x7F ∷ 0xBF ∷ [])
+    ∷ (0xED ∷ 0xA0 ∷ 0x80 ∷ [])
+    ∷ (0xEE ∷ 0x7F ∷ 0xBF ∷ [])
+    ∷ (0xEF ∷ 0xC0 ∷ 0x80 ∷ [])
+    ∷ (0xEF ∷ 0xBF ∷ 0xC0 ∷ [])
+    ∷ (0xEE ∷ 0x80 ∷ 0x7F ∷ [])
+    ∷ (0xF0 ∷ 0x8F ∷ 0xBF ∷ 0xBF ∷ [])
+    ∷ (0xF0 ∷ 0xC0 ∷ 0x80 ∷ 0x80 ∷ [])
+    ∷ (0xF1 ∷ 0x7F ∷ 0xBF ∷ 0xBF ∷ [])
+    ∷ (0xF3 ∷ 0xC0 ∷ 0x80 ∷ 0x80 ∷ [])
+    ∷ (0xF4 ∷ 0x7F ∷ 0xBF ∷ 0xBF ∷ [])
+    ∷ (0xF4 ∷ 0x90 ∷ 0x80 ∷ 0x80 ∷ [])
+    ∷ (0xF4 ∷ 0x8F ∷ 0xBF ∷ 0xC0 ∷ [])
+    ∷ (0xF4 ∷ 0x80 ∷ 0x80 ∷ 0x7F ∷ [])
+    ∷ (0xF5 ∷ 0x80 ∷ 0x80 ∷ 0x80 ∷ [])
+    ∷ [])
+    ≡ replicate 23 0
+unfolding utf8End many0 manyTurns utf8Char row2 row3 row4 byteIn
+beyond = refl
 
 cut-short : utf8End (0x61 ∷ 0x62 ∷ 0xF0 ∷ 0x9F ∷ []) 0 ≡ 2
 unfolding utf8End many0 manyTurns utf8Char row2 row3 row4 byteIn
@@ -132,6 +193,10 @@ comment-end = refl
 event-type : playlistType (bytes "EVENT\r\n") 0 ≡ ok event 6
 unfolding playlistType runEnd run spells tagged begins
 event-type = refl
+
+vod-type : playlistType (bytes "VOD\n") 0 ≡ ok vod 4
+unfolding playlistType runEnd run spells tagged begins
+vod-type = refl
 
 other-type : playlistType (bytes "EVENT \n") 0 ≡ ok (other (span 0 6)) 7
 unfolding playlistType runEnd run spells tagged begins

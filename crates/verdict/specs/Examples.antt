@@ -4,12 +4,13 @@ use Prim.Native.String.{String}
 use mathlib.Core.Path.{_≡_, refl}
 use mathlib.Core.Bool.{true, false}
 use mathlib.Core.List.{List, [], _∷_, _++_, map}
-use lib.ListN.{length, take}
-use Rattle.text.specs.Nom.{Res, ok, bytes, begins, tagged, run, runEnd}
+use lib.ListN.{length, take, replicate}
+use Rattle.text.specs.Why.{otherText}
+use Rattle.text.specs.Nom.{Res, fail, ok, bytes, begins, tagged, run, runEnd}
 use Rattle.text.specs.Many.{many0, manyTurns}
 use Rattle.text.specs.Util.{consumeLine}
 use Rattle.text.specs.Utf8.{utf8Char, row2, row3, row4, byteIn, utf8End}
-use Rattle.tables.specs.Refusal.{refused, given, noHeader}
+use Rattle.tables.specs.Refusal.{refused, given, textTooLong, notUtf8, noHeader}
 use Rattle.verdict.specs.Verdict.{masterKind, playlistKind, segmentKind, mediaKind, Says, nothing, decides, isMasterPlaylistTagLine, Verdict, master, media, firstSaid, verdictFrom}
 use Rattle.verdict.specs.Calls.{verdictOf, admitted, isMasterPlaylist}
 
@@ -58,6 +59,11 @@ longer : map line (map bytes ("#EXT-X-DISCONTINUITY-SEQUENCE" ∷ "#EXT-X-DISCON
 unfolding isMasterPlaylistTagLine masterKind mediaKind playlistKind segmentKind consumeLine runEnd run tagged begins
 longer = refl
 
+-- in its own group, where that other is not, it is told apart
+eighteenth : map (λ s. playlistKind (bytes s) 0) ("#EXT-X-DISCONTINUITY-SEQUENCE" ∷ "#EXT-X-DISCONTINUITY-SEQUENC" ∷ []) ≡ ok false 29 ∷ fail otherText ∷ []
+unfolding playlistKind tagged begins
+eighteenth = refl
+
 -- ---- 01's M: a text behind `#EXTM3U` and its line feed
 abbrev verdictM : String → Verdict
 verdictM s = verdictOf (bytes "#EXTM3U\n" ++ bytes s)
@@ -81,3 +87,8 @@ first-line = refl
 calls : map (λ s. isMasterPlaylist (bytes s)) ("" ∷ "#EXTM3" ∷ "#EXTM3U" ∷ "#EXTM3U\n#EXT-X-STREAM-INF\n" ∷ []) ≡ refused noHeader 0 ∷ refused noHeader 0 ∷ given false ∷ given true ∷ []
 unfolding isMasterPlaylist admitted verdictOf verdictFrom firstSaid many0 manyTurns isMasterPlaylistTagLine masterKind mediaKind playlistKind segmentKind consumeLine utf8End utf8Char row2 row3 row4 byteIn runEnd run tagged begins
 calls = refl
+
+-- "Verdict alone: 1, 2, 3": one byte above the limit, the limit itself, a byte that ends UTF-8 in a text without a header, and UTF-8 without a header
+in-order : map admitted (replicate 65537 0xFF ∷ replicate 65536 0xFF ∷ (bytes "a" ++ (0xFF ∷ [])) ∷ bytes "a" ∷ []) ≡ refused textTooLong 0 ∷ refused notUtf8 0 ∷ refused notUtf8 1 ∷ refused noHeader 0 ∷ []
+unfolding admitted many0 manyTurns utf8End utf8Char row2 row3 row4 byteIn tagged begins
+in-order = refl

@@ -7,18 +7,14 @@ use Rattle.attributes.specs.Answers.{optRangeOf}
 use Rattle.assembly.specs.Answers.{segmentMapOf}
 use Rattle.playlist.proofs.Groups.{clip-text}
 use Rattle.put.proofs.Putting.{puts-as, puts-then}
-use Rattle.cliplines.proofs.Between.{range-lines}
 use Rattle.cliplines.proofs.clip.Statement.{statement}
 use Rattle.cliplines.proofs.clip.Tie as tie
 
 map-lines-requires : tie.Need-map-lines-requires
 map-lines-requires c κs = search needs
 
-slice-aggregate-range-between : tie.Need-slice-aggregate-range-between
-slice-aggregate-range-between c = search needs
-
-range-between-requires : tie.Need-range-between-requires
-range-between-requires c κs = search needs
+range-lines-requires : tie.Need-range-lines-requires
+range-lines-requires c κs = search needs
 
 slice-aggregate-copy-where : tie.Need-slice-aggregate-copy-where
 slice-aggregate-copy-where c = search needs
@@ -45,21 +41,19 @@ returns c =
     let e = f .before .before .before .before in
     let d = e .before .before .before .before in
     let b = d .before .before .before .before .before in
-    let a = b .before .before .before .before .before in
+    let a = b .before .before .before .before in
     let s = a .before .before .before .before .before .before .before .args in
     let k = s .c .segment in
-    let range = puts-as (range-lines (optRangeOf (k .«byte_range»))) (b .range-between .ensures) in
     puts-as
     (sym (clip-text (now (s .text)) (now (s .tags)) (s .tag-count) (spanOf (s .c .uri)) (k .length) (partOf (k .title)) (optRangeOf (k .«byte_range»)) (k .discontinuity) (segmentMapOf (k .map)) (s .c .first) (s .c .count)))
-    (puts-then (a .map-lines .ensures) (puts-then range (puts-then (d .copy-where .ensures) (puts-then (e .tag-lines .ensures) (puts-then (f .extinf-line .ensures) (g .uri-line .ensures))))))
+    (puts-then (a .map-lines .ensures) (puts-then (b .range-lines .ensures) (puts-then (d .copy-where .ensures) (puts-then (e .tag-lines .ensures) (puts-then (f .extinf-line .ensures) (g .uri-line .ensures))))))
 
 pub clip-spec : {M : Type 1} → statement M
 clip-spec =
     tie.close
     (tie.spec
     map-lines-requires
-    slice-aggregate-range-between
-    range-between-requires
+    range-lines-requires
     slice-aggregate-copy-where
     copy-where-requires
     tag-lines-requires

@@ -6,17 +6,18 @@ use borrow.Author.Needs.{needs}
 use denote.Ref.{now}
 use Rattle.tables.specs.Refusal.{given}
 use Rattle.tables.specs.Table.{clipsFit, tagsFit}
+use Rattle.verdict.specs.Answers.{admission}
 use Rattle.tags.specs.Tags.{step}
 use Rattle.media.specs.declared.Read.{Read}
 use Rattle.media.specs.Answers.{readSeen, parseAnswer}
 use Rattle.media.specs.Inside.Passes.{weighed, countedOf}
-use Rattle.media.proofs.Answered.{weighed-fillable, refused-first, clips-short, tags-short, gives, parsed}
+use Rattle.media.proofs.Answered.{Passed, weighed-on, weighed-refused, weighed-fillable, refused-first, clips-short, tags-short, gives, parsed}
 use Rattle.media.proofs.parse_media_playlist.Statement.{statement}
 use Rattle.media.proofs.parse_media_playlist.Tie as tie
 
 -- places on the way back: from what there is to give to the call; from the room for clips to what there is, from that for tags to clips
 abbrev entry : tie.After-last → tie.Start
-entry c = c .before .before .before .before .before .before
+entry c = c .before .before .before .before .before .before .before .before .before .before
 
 abbrev read : tie.Else1 → tie.After-last
 read c = c .before .before .before .before
@@ -28,8 +29,11 @@ roomy c = c .before .before .before
 abbrev last : tie.After-last → Read
 last c = c .last .given .0 .0
 
-passed : (c : tie.After-last) → weighed step (now (entry c .args .text)) ≡ given (readSeen (last c))
-passed c = sym (c .before .before .weigh .ensures) ∙ ap countedOf (c .last .given .1)
+text-weighed : (c : tie.After-enum-told) → weighed (now (c .before .before .before .before .before .before .args .text)) ≡ given tt
+text-weighed c = sym (c .before .before .weigh .ensures) ∙ ap admission (c .enum-told .given .1)
+
+passed : (c : tie.After-last) → Passed step (now (entry c .args .text)) (given (readSeen (last c)))
+passed c = let k = c .before .before in weighed-on step _ (text-weighed (k .before .before)) (sym (k .count .ensures) ∙ ap countedOf (c .last .given .1))
 
 clips-room : (c : tie.Else1) → clipsFit (now (entry (read c) .args .clips)) (last (read c) .clips) ≡ true
 clips-room c = sym (c .before .clips-fit .ensures) ∙ sym (Bool·not-not _) ∙ ap not (c .if1 .left)
@@ -43,6 +47,23 @@ weigh-requires c κs = search needs
 enum-known-r : tie.Need-enum-known-r
 enum-known-r c = search needs
 
+returns : tie.Need-returns
+returns c =
+    let r = c .before in
+    parsed _ _ (refused-first step parseAnswer _ (weighed-refused step _ (sym (r .before .before .weigh .ensures) ∙ ap admission (r .r .given .1))) refl)
+
+enum-told : tie.Need-enum-told
+enum-told c = search needs
+
+first-step-requires : tie.Need-first-step-requires
+first-step-requires c κs = search needs
+
+count-requires : tie.Need-count-requires
+count-requires c κs = search needs
+
+enum-known-r-2 : tie.Need-enum-known-r-2
+enum-known-r-2 c = search needs
+
 enum-known-last : tie.Need-enum-known-last
 enum-known-last c = search needs
 
@@ -52,8 +73,8 @@ clips-fit-requires c κs = search needs
 same-length : tie.Need-same-length
 same-length c = search needs
 
-returns : tie.Need-returns
-returns c =
+returns-2 : tie.Need-returns-2
+returns-2 c =
     let f = c .before in
     parsed _ _ (clips-short step parseAnswer _ (passed (f .before .before .before)) (sym (f .clips-fit .ensures) ∙ sym (Bool·not-not _) ∙ ap not (c .if1 .taken)) refl)
 
@@ -66,8 +87,8 @@ same-length-2 c = search needs
 same-length-3 : tie.Need-same-length-3
 same-length-3 c = search needs
 
-returns-2 : tie.Need-returns-2
-returns-2 c =
+returns-3 : tie.Need-returns-3
+returns-3 c =
     let f = c .before in
     let h = f .before .before in
     parsed _ _ (tags-short step parseAnswer _ (passed (read h)) (clips-room h) (sym (f .tags-fit .ensures) ∙ sym (Bool·not-not _) ∙ ap not (c .if2 .taken)) refl)
@@ -75,12 +96,14 @@ returns-2 c =
 fill-requires : tie.Need-fill-requires
 fill-requires c κs =
     let g = c .before .before in
-    weighed-fillable step _ (passed (read (roomy g))) _ _ (clips-room (roomy g)) (tags-room g)
+    let r = read (roomy g) in
+    (r .before .before .before .first-step .ensures, weighed-fillable step _ (passed r) _ _ (clips-room (roomy g)) (tags-room g))
 
-returns-3 : tie.Need-returns-3
-returns-3 c =
+returns-4 : tie.Need-returns-4
+returns-4 c =
     let r = c .before in
-    parsed _ _ (refused-first step parseAnswer _ (sym (r .before .before .weigh .ensures) ∙ ap countedOf (r .r .given .1)) refl)
+    let k = r .before .before in
+    parsed _ _ (refused-first step parseAnswer _ (weighed-on step _ (text-weighed (k .before .before)) (sym (k .count .ensures) ∙ ap countedOf (r .r2 .given .1))) refl)
 
 same-length-4 : tie.Need-same-length-4
 same-length-4 c = search needs
@@ -88,8 +111,8 @@ same-length-4 c = search needs
 same-length-5 : tie.Need-same-length-5
 same-length-5 c = search needs
 
-returns-4 : tie.Need-returns-4
-returns-4 c =
+returns-5 : tie.Need-returns-5
+returns-5 c =
     let f = c .before .before .before .before in
     let g = f .before .before .before in
     parsed _ _ (gives step parseAnswer _ (passed (read (roomy g))) (clips-room (roomy g)) (tags-room g) refl (f .fill .ensures))
@@ -100,16 +123,21 @@ parse-media-playlist-spec =
     (tie.spec
     weigh-requires
     enum-known-r
+    returns
+    enum-told
+    first-step-requires
+    count-requires
+    enum-known-r-2
     enum-known-last
     clips-fit-requires
     same-length
-    returns
+    returns-2
     tags-fit-requires
     same-length-2
     same-length-3
-    returns-2
-    fill-requires
     returns-3
+    fill-requires
+    returns-4
     same-length-4
     same-length-5
-    returns-4)
+    returns-5)

@@ -29,21 +29,18 @@ verdict-of-requires c κs = search needs
 enum-known-hash : tie.Need-enum-known-hash
 enum-known-hash c = search needs
 
+enum-told-2 : tie.Need-enum-told-2
+enum-told-2 c = search needs
+
 returns-2 : tie.Need-returns-2
 returns-2 c =
     let v = c .before .before .before in
     rw (text-admitted (v .before), sym (v .verdict-of .ensures) ∙ ap verdictSeen (c .before .hash .given .1))
 
-enum-told-2 : tie.Need-enum-told-2
-enum-told-2 c = search needs
-
-count-requires : tie.Need-count-requires
-count-requires c κs = search needs
-
 returns-3 : tie.Need-returns-3
 returns-3 c =
-    let v = c .before .before .before in
-    rw (text-admitted (v .before), sym (v .verdict-of .ensures) ∙ ap verdictSeen (c .before .enum-told2 .given .1)) (c .count .ensures)
+    let v = c .before .before in
+    rw (text-admitted (v .before), sym (v .verdict-of .ensures) ∙ ap verdictSeen (c .enum-told2 .given .1))
 
 pub weigh-spec : {M : Type 1} → statement M
 weigh-spec =
@@ -55,7 +52,6 @@ weigh-spec =
     enum-told
     verdict-of-requires
     enum-known-hash
-    returns-2
     enum-told-2
-    count-requires
+    returns-2
     returns-3)

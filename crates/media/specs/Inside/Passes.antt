@@ -93,13 +93,14 @@ tagsPut s kept (comment t) tags = tags
 tagsPut s kept (uri u) tags = tags
 tagsPut s kept (leftOut t) tags = tags
 
+-- ---- refusals 1 to 4
+abbrev pub weighed : List ℕ → Answer (Unit {0})
+weighed text = andThen (admitted text) (unlessMaster (verdictOf text) (given tt))
+
 module _ (step : Parser Taken) where
-  -- ---- the first pass: what it meets first, or what there is to give; and with refusals 1 to 4 before it
+  -- ---- the first pass: what it meets first, or what there is to give
   unfoldable pub firstPass : List ℕ → Answer Read
   firstPass text = unlessMet (stepsBy step text) (given (readFrom (lastOf begin (stepsBy step text)) (stopBy step text)))
-
-  abbrev pub weighed : List ℕ → Answer Read
-  weighed text = andThen (admitted text) (unlessMaster (verdictOf text) (firstPass text))
 
   -- a step of it, from counts c: it stops; it meets a refusal; or it takes a tag and goes on, with what a tag of the head told
   abbrev pub countSays : CountStep → countsᵈ.Counts → List ℕ → Type 0

@@ -7,13 +7,13 @@ use Rattle.put.proofs.Putting.{puts-then, puts-long, fit-place}
 use Rattle.numerals.proofs.length_at.Statement.{statement}
 use Rattle.numerals.proofs.length_at.Tie as tie
 
-digits-at-requires : tie.Need-digits-at-requires
-digits-at-requires c κs = let s = c .before .before in omega (arith, s .pre, length-parts (s .args .ns))
+seconds-at-requires : tie.Need-seconds-at-requires
+seconds-at-requires c κs = let s = c .before .before in omega (arith, s .pre, length-parts (s .args .ns))
 
 fraction-at-requires : tie.Need-fraction-at-requires
 fraction-at-requires c κs =
     let s = c .before .before .before .before .before .before in
-    let n = c .before .before .before .digits-at .ensures in
+    let n = c .before .before .before .seconds-at .ensures in
     let l = length-parts (s .args .ns) in
     (omega arith, omega (arith, s .pre, l, puts-long n, fit-place n (omega (arith, s .pre, l))))
 
@@ -22,7 +22,7 @@ same-length c = search needs
 
 returns : tie.Need-returns
 unfolding lengthText
-returns c = let e = c .before .before in puts-then (e .before .before .before .before .digits-at .ensures) (e .fraction-at .ensures)
+returns c = let e = c .before .before in puts-then (e .before .before .before .before .seconds-at .ensures) (e .fraction-at .ensures)
 
 pub length-at-spec : {M : Type 1} → statement M
-length-at-spec = tie.close (tie.spec digits-at-requires fraction-at-requires same-length returns)
+length-at-spec = tie.close (tie.spec seconds-at-requires fraction-at-requires same-length returns)

@@ -1,12 +1,11 @@
--- `put_number`: by recursion on the quotient, which is less. Rests on `put-small`, `put-more`. Assumes nothing.
+-- `put_number`: by recursion on the quotient, which is less. Rests on `puts-then` and the digits' laws. Assumes nothing.
 use borrow.Author.Needs.{needs}
 use Prim.Native.Nat.{ℕ, _<_}
-use lib.ListN.{take}
 use borrow.Fn.Kinds.{In}
 use borrow.Fn.PlainCycle.{Measures, is, falls, and}
-use mathlib.Core.Path.{_∙_}
-use denote.Ref.{now}
-use Rattle.output.proofs.Laws.{put-small, put-more}
+use mathlib.Core.Path.{sym}
+use Rattle.digits.proofs.Number.{number-small, number-more}
+use Rattle.output.proofs.Laws.{puts-then, puts-as}
 use Rattle.output.proofs.put_number.Reads as put-number
 use Rattle.output.proofs.put_number.Kinds as put-number-kinds
 use Rattle.output.proofs.+put_number.Lts-put_number as put-number-lts
@@ -56,7 +55,7 @@ put-number-returns : (t : ℕ) → put-number-lts.Need-returns (
   put-number.Post,
 ) (put-number-at t) put-number.Post
 put-number-returns t c =
-    (c .put-byte .ensures .0, c .put-byte .ensures .1 ∙ put-small _ (c .before .before .before .args .number) (search needs))
+    (c .put-byte .ensures .0, puts-as (sym (number-small (c .before .before .before .args .number) (search needs))) (c .put-byte .ensures .1))
 
 put-number-put-number-requires : (t : ℕ) → put-number-lts.Need-put-number-requires (
   put-byte-reads.Asked,
@@ -98,8 +97,7 @@ put-number-returns-2 : (t : ℕ) → put-number-lts.Need-returns-2 (
 ) (put-number-at t) put-number.Post
 put-number-returns-2 t c =
     let a = c .before .before .before .before .before .args in
-    let quotient = c .before .before .put-number .ensures .1 in
-    (c .put-byte2 .ensures .0, rw (c .put-byte2 .ensures .1, quotient) (put-more (take (a .waits) (now (a .buffer))) (a .number) (search needs) (search needs)))
+    (c .put-byte2 .ensures .0, puts-as (sym (number-more (a .number) (search needs) (search needs))) (puts-then (c .before .before .put-number .ensures .1) (c .put-byte2 .ensures .1)))
 
 pub +put-number-spec : {M : Type 1} → statement M
 +put-number-spec = close μ-put-number λ t. put-number-lts.spec (

@@ -1,23 +1,24 @@
--- `put_bytes`: what is left, put from here, is the whole. The measure is the bytes left. Rests on `bytes-on`, `bytes-end`. Assumes nothing.
+-- `put_bytes`: the bytes so far are put. The measure is the bytes left. Rests on `puts-then`, `bytes-more`. Assumes nothing.
 use borrow.Author.Needs.{needs}
 use Prim.Native.Nat.{_-_, _≤_}
-use mathlib.Core.Path.{_≡_, sym, _∙_}
-use lib.ListN.{length, take, drop}
+use lib.ListN.{length, take}
+use lib.Seq.{take-all}
 use denote.Ref.{now}
-use Rattle.output.specs.Waiting.{room, withBytes}
-use Rattle.output.proofs.Laws.{bytes-on, bytes-end}
+use Rattle.output.specs.Waiting.{room}
+use Rattle.output.specs.Puts.{Puts}
+use Rattle.output.proofs.Laws.{puts-none, puts-then, puts-as, bytes-more}
 use Rattle.output.proofs.put_bytes.Statement.{statement}
 use Rattle.output.proofs.put_bytes.Tie as tie
 
 abbrev Inv-loop : tie.InvT-loop
-Inv-loop fd buffer₀ waits bytes waits₀ k₀ buffer waits' k =
-    (k ≤ length bytes) × (withBytes (take waits' buffer) (drop k bytes) ≡ withBytes (take waits buffer₀) bytes) × (waits ≤ room → waits' ≤ room)
+Inv-loop fd buffer₀ bytes waits₀ k₀ buffer waits k =
+    (k ≤ length bytes) × Puts buffer₀ buffer waits₀ waits (take k bytes) × (waits₀ .count ≤ room → waits .count ≤ room)
 
 abbrev μ-loop : tie.MeasureT-loop
-μ-loop fd buffer₀ waits bytes waits₀ k₀ buffer waits' k = length bytes - k
+μ-loop fd buffer₀ bytes waits₀ k₀ buffer waits k = length bytes - k
 
 loop-holds : tie.Need-loop-holds Inv-loop μ-loop
-loop-holds c = search needs
+loop-holds c = (search needs, puts-none _ _, λ h. h)
 
 shared-slice-read-put-byte : tie.Need-shared-slice-read-put-byte Inv-loop μ-loop
 shared-slice-read-put-byte c = search needs
@@ -33,13 +34,14 @@ loop-less c = search needs
 
 loop-again : tie.Need-loop-again Inv-loop μ-loop
 loop-again c =
-    let l = c .before .before .before .before .loop in let bytes = now (c .before .before .before .before .before .before .args .bytes) in
-    (search needs, rw (c .put-byte .ensures .1) (sym (bytes-on (take (l .waits) (l .buffer)) bytes (l .k) (search needs)) ∙ l .inv .1), λ _. c .put-byte .ensures .0)
+    let l = c .before .before .before .before .loop in
+    let bytes = now (c .before .before .before .before .before .before .args .bytes) in
+    (search needs, puts-as (bytes-more bytes (l .k) (search needs)) (puts-then (l .inv .1) (c .put-byte .ensures .1)), λ _. c .put-byte .ensures .0)
 
 returns : tie.Need-returns Inv-loop μ-loop
 returns c =
     let l = c .before .loop in
-    (l .inv .2, bytes-end (take (l .waits) (l .buffer)) (now (c .before .before .before .args .bytes)) (l .k) (search needs) ∙ l .inv .1)
+    (l .inv .2, puts-as (take-all (l .k) (now (c .before .before .before .args .bytes)) (search needs)) (l .inv .1))
 
 pub put-bytes-spec : {M : Type 1} → statement M
 put-bytes-spec =

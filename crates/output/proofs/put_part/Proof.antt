@@ -1,24 +1,19 @@
 -- `put_part`: nothing, or the bytes of the part. Rests on `part-there`, `part-past-text`, `part-reversed`. Assumes nothing.
-use lib.ListN.{take}
 use borrow.Author.Needs.{needs}
-use mathlib.Core.Path.{ap, _∙_}
 use denote.Ref.{now}
-use Rattle.output.specs.Waiting.{withBytes}
-use Rattle.output.proofs.Laws.{part-there, part-past-text, part-reversed}
+use Rattle.output.proofs.Laws.{puts-none, puts-as, part-there, part-past-text, part-reversed}
 use Rattle.output.proofs.put_part.Statement.{statement}
 use Rattle.output.proofs.put_part.Tie as tie
 
 returns : tie.Need-returns
-unfolding withBytes
 returns c =
     let a = c .before .before .args in
-    (λ h. h, ap (withBytes (take (a .waits) (now (a .buffer)))) (part-past-text (now (a .text)) (a .start) (a .end) (search needs)))
+    (λ h. h, puts-as (part-past-text (now (a .text)) (a .start) (a .end) (search needs)) (puts-none _ _))
 
 returns-2 : tie.Need-returns-2
-unfolding withBytes
 returns-2 c =
     let a = c .before .before .before .args in
-    (λ h. h, ap (withBytes (take (a .waits) (now (a .buffer)))) (part-reversed (now (a .text)) (a .start) (a .end) (search needs) (search needs)))
+    (λ h. h, puts-as (part-reversed (now (a .text)) (a .start) (a .end) (search needs) (search needs)) (puts-none _ _))
 
 part-put-bytes-start : tie.Need-part-put-bytes-start
 part-put-bytes-start c = search needs
@@ -32,7 +27,7 @@ put-bytes-requires c κs = search needs
 returns-3 : tie.Need-returns-3
 returns-3 c =
     let a = c .before .before .before .before .before .before .args in
-    (c .put-bytes .ensures .0, c .put-bytes .ensures .1 ∙ ap (withBytes (take (a .waits) (now (a .buffer)))) (part-there (now (a .text)) (a .start) (a .end) (search needs) (search needs)))
+    (c .put-bytes .ensures .0, puts-as (part-there (now (a .text)) (a .start) (a .end) (search needs) (search needs)) (c .put-bytes .ensures .1))
 
 pub put-part-spec : {M : Type 1} → statement M
 put-part-spec =

@@ -12,6 +12,9 @@ abbrev μ-loop : tie.MeasureT-loop
 new-requires : tie.Need-new-requires Inv-loop μ-loop
 new-requires c κs = search needs
 
+none-requires : tie.Need-none-requires Inv-loop μ-loop
+none-requires c κs = search needs
+
 loop-holds : tie.Need-loop-holds Inv-loop μ-loop
 loop-holds c = search needs
 
@@ -46,6 +49,7 @@ run-spec =
     Inv-loop
     μ-loop
     new-requires
+    none-requires
     loop-holds
     next-record-requires
     enum-known-next

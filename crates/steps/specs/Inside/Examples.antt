@@ -7,6 +7,7 @@ use Rattle.lengths.specs.Duration.{ns, extinf}
 use Rattle.tags.specs.Examples.{taken}
 use Rattle.steps.specs.Inside.Common.{uriKind, extinfKind, otherKind, kindAt, takesUri, takesExtinf, takesOther, commonIn}
 
+-- by its first bytes: an EXTINF has its colon, and where the text ends there is no line
 of-kind : (kindAt (bytes "a") 0 ≡ uriKind) × (kindAt (bytes "#EXTINF:9") 0 ≡ extinfKind) × (kindAt (bytes "#EXTINF") 0 ≡ otherKind) × (kindAt (bytes "") 0 ≡ otherKind)
 unfolding tagged begins
 of-kind = (refl, refl, refl, refl)

@@ -15,6 +15,9 @@ slice-aggregate-last-of-each c = search needs
 slice-aggregate-last-of-each-2 : tie.Need-slice-aggregate-last-of-each-2
 slice-aggregate-last-of-each-2 c = search needs
 
+slice-aggregate-last-of-each-3 : tie.Need-slice-aggregate-last-of-each-3
+slice-aggregate-last-of-each-3 c = search needs
+
 last-of-each-requires : tie.Need-last-of-each-requires
 last-of-each-requires c κs = search needs
 
@@ -39,7 +42,7 @@ enum-told c = search needs
 -- the rule, by the two attributes that were read
 walked : (c : tie.After-attr-at2) →
     let t = c .before .before .before .before .before in
-    let a = t .before .before .before .before .args in
+    let a = t .before .before .before .before .before .args in
     let uri = attrOf (c .before .before .attr-at .result) in
     extmap (now (a .text)) (a .at) ≡ mapped (now (a .text)) (a .at) uri (attrOf (c .attr-at2 .result)) (t .last-of-each .result)
 walked c =
@@ -73,6 +76,7 @@ extmap-spec =
     (tie.spec
     slice-aggregate-last-of-each
     slice-aggregate-last-of-each-2
+    slice-aggregate-last-of-each-3
     last-of-each-requires
     slice-aggregate-attr-at
     attr-at-requires

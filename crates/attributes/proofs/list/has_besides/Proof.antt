@@ -12,10 +12,10 @@ use Rattle.attributes.proofs.list.has_besides.Statement.{statement}
 use Rattle.attributes.proofs.list.has_besides.Tie as tie
 
 abbrev Inv-loop : tie.InvT-loop
-Inv-loop text at names from₀ from = others text (words names) at ≡ others text (words names) from
+Inv-loop text at names sizes from₀ from = others text (words names sizes) at ≡ others text (words names sizes) from
 
 abbrev μ-loop : tie.MeasureT-loop
-μ-loop text at names from₀ from = length text - from
+μ-loop text at names sizes from₀ from = length text - from
 
 loop-holds : tie.Need-loop-holds Inv-loop μ-loop
 loop-holds c = refl
@@ -32,7 +32,7 @@ is-named-requires c κs = search needs
 -- the pair that was read
 read : (c : tie.After-p Inv-loop μ-loop) →
     let n = c .before .before in
-    nextPair (now (n .before .before .before .before .args .text)) (n .before .loop .from) ≡ ok (pairOf (c .p .given .0 .0)) (c .p .given .0 .1 .0)
+    nextPair (now (n .before .before .before .before .before .args .text)) (n .before .loop .from) ≡ ok (pairOf (c .p .given .0 .0)) (c .p .given .0 .1 .0)
 read c = sym (c .before .before .next-pair .ensures) ∙ ap pairRes (c .p .given .1)
 
 loop-less : tie.Need-loop-less Inv-loop μ-loop

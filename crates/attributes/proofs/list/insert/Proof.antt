@@ -1,82 +1,112 @@
 -- `list::insert`: what is left of the names, done from here, is the whole. Each turn passes a name. Assumes nothing.
 use borrow.Author.Needs.{needs}
 use native.Mathlib.Omega.{arith}
-use Prim.Native.Nat.{_+_, _≤_}
+use Prim.Native.Nat.{_+_, _-_, _≤_}
 use mathlib.Core.Path.{_≡_, refl, sym, _∙_, ap}
-use lib.ListN.{length, drop}
+use mathlib.Core.List.{_∷_}
+use mathlib.Core.Logic.{⊎-elim}
+use lib.ListN.{length, getD, take, drop}
 use denote.Ref.{now}
 use Rattle.text.specs.Answers.{spanOf}
 use Rattle.attributes.specs.Pairs.{pair, words}
-use Rattle.attributes.specs.Inside.Insert.{found, foundIn, foundOf, insertedFrom}
-use Rattle.attributes.specs.Answers.{valueOf}
-use Rattle.attributes.proofs.Words.{words-few}
-use Rattle.attributes.proofs.Found.{found-number}
+use Rattle.attributes.specs.Inside.Insert.{insertedFrom}
+use Rattle.attributes.specs.Answers.{valueOf, pairOf}
+use Rattle.attributes.proofs.Words.{word-ends, words-next, words-out}
 use Rattle.attributes.proofs.Laid.{stored-length}
-use Rattle.attributes.proofs.Inserted.{inserted-nowhere, inserted-found}
+use Rattle.attributes.proofs.Inserted.{inserted-out, inserted-here, inserted-on}
 use Rattle.attributes.proofs.list.insert.Statement.{statement}
 use Rattle.attributes.proofs.list.insert.Tie as tie
 
 abbrev Inv-loop : tie.InvT-loop
-Inv-loop text names held₀ name value k₀ number₀ held k number =
+Inv-loop text names sizes held₀ name value start₀ n₀ held start n =
     let p = pair (spanOf name) (valueOf value) in
-    (insertedFrom text p 0 (words names) held₀ ≡ insertedFrom text p number (words (drop k names)) held)
-    × (number + length (words (drop k names)) ≤ length names)
+    (insertedFrom text p 0 (words names sizes) held₀ ≡ insertedFrom text p n (words (drop start names) (drop n sizes)) held)
+    × (start ≤ length names)
     × (length held ≡ length held₀)
 
 abbrev μ-loop : tie.MeasureT-loop
-μ-loop text names held₀ name value k₀ number₀ held k number = length (words (drop k names))
+μ-loop text names sizes held₀ name value start₀ n₀ held start n = length sizes - n
 
 loop-holds : tie.Need-loop-holds Inv-loop μ-loop
-loop-holds c = (refl, omega (arith, words-few (now (c .before .before .before .before .args .names))), refl)
+loop-holds c = (refl, omega arith, refl)
 
-find-requires : tie.Need-find-requires Inv-loop μ-loop
-find-requires c κs = c .loop .inv .1
+mul-name-end : tie.Need-mul-name-end Inv-loop μ-loop
+mul-name-end c = search needs
 
-enum-known-n : tie.Need-enum-known-n Inv-loop μ-loop
-enum-known-n c = search needs
+shared-slice-read-name-end : tie.Need-shared-slice-read-name-end Inv-loop μ-loop
+shared-slice-read-name-end c = search needs
+
+name-end-requires : tie.Need-name-end-requires Inv-loop μ-loop
+name-end-requires c κs = c .before .before .loop .inv .1
+
+-- where the name here ends
+ends : (c : tie.After-name-end Inv-loop μ-loop) →
+    let l = c .before .before .before in
+    (l .loop .start ≤ c .name-end .result) × (c .name-end .result ≤ length (now (l .before .before .before .before .before .before .args .names)))
+ends c =
+    let l = c .before .before .before in
+    let a = l .before .before .before .before .before .before .args in
+    word-ends (now (a .names)) _ (getD (now (a .sizes)) (l .loop .n) 0) _ (c .name-end .ensures) (l .loop .inv .1)
+
+-- it, and those behind it
+here : (c : tie.After-name-end Inv-loop μ-loop) →
+    let l = c .before .before .before in
+    let a = l .before .before .before .before .before .before .args in
+    let names = now (a .names) in
+    words (drop (l .loop .start) names) (drop (l .loop .n) (now (a .sizes)))
+    ≡ take (c .name-end .result - l .loop .start) (drop (l .loop .start) names) ∷ words (drop (c .name-end .result) names) (drop (l .loop .n + 1) (now (a .sizes)))
+here c = words-next _ _ _ _ (c .name-end .ensures) _ _ (c .before .before .loop-test .taken) refl
+
+sub-spells : tie.Need-sub-spells Inv-loop μ-loop
+sub-spells c = ends c .0
+
+part-spells-start : tie.Need-part-spells-start Inv-loop μ-loop
+part-spells-start c = omega (arith, ends c)
+
+part-spells-end : tie.Need-part-spells-end Inv-loop μ-loop
+part-spells-end c = omega (arith, ends c)
+
+spells-requires : tie.Need-spells-requires Inv-loop μ-loop
+spells-requires c κs = search needs
 
 put-requires : tie.Need-put-requires Inv-loop μ-loop
 put-requires c κs = search needs
 
--- the name that was found, and those behind it
-there : (c : tie.After-n Inv-loop μ-loop) →
-    let f = c .before .before in
-    let a = f .before .before .before .before .before .before .args in
-    let l = f .before .loop in
-    let n = c .n .given .0 in
-    foundIn (now (a .text)) (spanOf (a .p .name)) (l .number) (words (drop (l .k) (now (a .names)))) ≡ found (n .0) (words (drop (n .1 .0) (now (a .names))))
-there c =
-    let f = c .before .before in
-    let a = f .before .before .before .before .before .before .args in
-    sym (f .find .ensures) ∙ ap (foundOf (now (a .names))) (c .n .given .1)
+-- what is held after the name here
+done : (c : tie.Joined1 Inv-loop μ-loop) →
+    let e = c .before .before .before in
+    let l = e .before .before .before in
+    let a = l .before .before .before .before .before .before .args in
+    let text = now (a .text) in
+    let names = now (a .names) in
+    (insertedFrom text (pairOf (a .p)) (l .loop .n) (words (drop (l .loop .start) names) (drop (l .loop .n) (now (a .sizes)))) (l .loop .held)
+    ≡ insertedFrom text (pairOf (a .p)) (l .loop .n + 1) (words (drop (e .name-end .result) names) (drop (l .loop .n + 1) (now (a .sizes)))) (c .if1 .held))
+    × (length (c .if1 .held) ≡ length (l .loop .held))
+done c =
+    let e = c .before .before .before in
+    ⊎-elim
+    (λ w. let now-held = w .5 ∙ w .2 .ensures in
+    (inserted-here _ _ _ _ _ _ _ _ (here e) (sym (c .before .spells .ensures) ∙ w .0 .taken) ∙ ap (insertedFrom _ _ _ _) (sym now-held), ap length now-held ∙ stored-length _ _ _))
+    (λ w. (inserted-on _ _ _ _ _ _ _ _ (here e) (sym (c .before .spells .ensures) ∙ w .0 .left) ∙ ap (insertedFrom _ _ _ _) (sym (w .1)), ap length (w .1)))
+    (c .if1 .came)
 
-add-number : tie.Need-add-number Inv-loop μ-loop
-add-number c = let t = c .before .before .before .before .before in omega (arith, found-number _ _ _ _ _ _ (there t), t .before .before .before .loop .inv .1)
+add-n : tie.Need-add-n Inv-loop μ-loop
+add-n c = omega arith
 
 loop-less : tie.Need-loop-less Inv-loop μ-loop
-loop-less c = omega (arith, found-number _ _ _ _ _ _ (there (c .before .before .before .before .before)))
+loop-less c = omega arith
 
 loop-again : tie.Need-loop-again Inv-loop μ-loop
 loop-again c =
-    let p = c .before .before in
-    let t = p .before .before .before in
-    let l = t .before .before .before .loop in (
-      l .inv .0 ∙ inserted-found _ _ _ _ _ _ _ _ (there t) ∙ ap (insertedFrom _ _ _ _) (sym (p .put .ensures)),
-      omega (arith, found-number _ _ _ _ _ _ (there t), l .inv .1),
-      ap length (p .put .ensures) ∙ stored-length _ _ _ ∙ l .inv .2,
-    )
-
-enum-told : tie.Need-enum-told Inv-loop μ-loop
-enum-told c = search needs
+    let e = c .before .before .before in
+    let i = e .before .before .before .loop .inv in
+    (i .0 ∙ done c .0, ends e .1, done c .1 ∙ i .2)
 
 same-length : tie.Need-same-length Inv-loop μ-loop
-same-length c = c .before .before .before .loop .inv .2
+same-length c = c .before .loop .inv .2
 
 returns : tie.Need-returns Inv-loop μ-loop
-returns c =
-    let f = c .before .before in
-    let l = f .before .loop in
-    sym (l .inv .0 ∙ inserted-nowhere _ _ _ _ _ _ (sym (f .find .ensures) ∙ ap (foundOf _) (c .enum-told .given .1)))
+returns c = sym (c .before .loop .inv .0 ∙ inserted-out _ _ _ _ _ _ (words-out _ _ _ (c .loop-test .left)))
 
 pub insert-spec : {M : Type 1} → statement M
 insert-spec =
@@ -85,12 +115,16 @@ insert-spec =
     Inv-loop
     μ-loop
     loop-holds
-    find-requires
-    enum-known-n
+    mul-name-end
+    shared-slice-read-name-end
+    name-end-requires
+    sub-spells
+    part-spells-start
+    part-spells-end
+    spells-requires
     put-requires
-    add-number
+    add-n
     loop-less
     loop-again
-    enum-told
     same-length
     returns)

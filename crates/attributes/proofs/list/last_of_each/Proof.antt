@@ -14,12 +14,12 @@ use Rattle.attributes.proofs.list.last_of_each.Statement.{statement}
 use Rattle.attributes.proofs.list.last_of_each.Tie as tie
 
 abbrev Inv-loop : tie.InvT-loop
-Inv-loop text at names held₀ from₀ held from =
+Inv-loop text at names sizes held₀ from₀ held from =
     (stop (many0 nextPair text at) ≡ stop (many0 nextPair text from))
-    × (heldFrom text (words names) at held₀ ≡ heldFrom text (words names) from held)
+    × (heldFrom text (words names sizes) at held₀ ≡ heldFrom text (words names sizes) from held)
 
 abbrev μ-loop : tie.MeasureT-loop
-μ-loop text at names held₀ from₀ held from = length text - from
+μ-loop text at names sizes held₀ from₀ held from = length text - from
 
 clear-requires : tie.Need-clear-requires Inv-loop μ-loop
 clear-requires c κs = search needs
@@ -39,7 +39,7 @@ insert-requires c κs = search needs
 -- the pair that was read
 read : (c : tie.After-p Inv-loop μ-loop) →
     let n = c .before .before in
-    let a = n .before .before .before .before .before .before .before .before .before .args in
+    let a = n .before .before .before .before .before .before .before .before .before .before .args in
     nextPair (now (a .text)) (n .before .loop .from) ≡ ok (pairOf (c .p .given .0 .0)) (c .p .given .0 .1 .0)
 read c = sym (c .before .before .next-pair .ensures) ∙ ap pairRes (c .p .given .1)
 

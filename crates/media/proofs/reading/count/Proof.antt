@@ -30,7 +30,7 @@ abbrev μ-loop : tie.MeasureT-loop
 
 -- ---- a turn: its text, what its step says, and where that goes
 abbrev read : tie.At-loop Inv-loop μ-loop → List ℕ
-read l = now (l .before .before .before .before .before .args .text)
+read l = now (l .before .before .before .before .args .text)
 
 abbrev Said : tie.At-loop Inv-loop μ-loop → CountStep → Type 0
 Said l r = countSays step r (l .loop .c) (read l)
@@ -54,9 +54,6 @@ took-told : (c : tie.After-t Inv-loop μ-loop) → TookTo step (read (turn-told 
 took-told c = record { taken = said-told c .0 }
 
 -- ---- the needs
-first-step-requires : tie.Need-first-step-requires Inv-loop μ-loop
-first-step-requires c κs = search needs
-
 new-requires : tie.Need-new-requires Inv-loop μ-loop
 new-requires c κs = search needs
 
@@ -66,7 +63,7 @@ empty-requires c κs = search needs
 loop-holds : tie.Need-loop-holds Inv-loop μ-loop
 loop-holds c =
     let made = c .before .new .ensures in
-    (begin, count-starts step (made .0 ∙ c .before .before .first-step .ensures), c .empty .ensures, made .1)
+    (begin, count-starts step (made .0 ∙ c .before .before .before .pre), c .empty .ensures, made .1)
 
 step-requires : tie.Need-step-requires Inv-loop μ-loop
 step-requires c κs = let i = c .loop .inv in within-counts (i .1 .within) (i .3)
@@ -137,7 +134,6 @@ count-spec =
     (tie.spec
     Inv-loop
     μ-loop
-    first-step-requires
     new-requires
     empty-requires
     loop-holds

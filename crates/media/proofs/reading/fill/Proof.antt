@@ -19,15 +19,15 @@ use Rattle.media.proofs.reading.fill.Statement.{statement}
 use Rattle.media.proofs.reading.fill.Tie as tie
 
 abbrev Inv-loop : tie.InvT-loop
-Inv-loop text clips₀ tags₀ kept s₀ clips tags s =
+Inv-loop text at clips₀ tags₀ kept s₀ clips tags s =
     (a : State) × Filling step text clips₀ tags₀ kept clips tags a (s .counts .at) × (stateSeen s ≡ heldOf a)
 
 abbrev μ-loop : tie.MeasureT-loop
-μ-loop text clips₀ tags₀ kept s₀ clips tags s = length text - s .counts .at
+μ-loop text at clips₀ tags₀ kept s₀ clips tags s = length text - s .counts .at
 
 -- ---- a turn: the call's start, what its step says, and where that goes
 abbrev entry : tie.At-loop Inv-loop μ-loop → tie.Start Inv-loop μ-loop
-entry l = l .before .before .before .before .before .before
+entry l = l .before .before .before .before .before
 
 abbrev Said : tie.After-step Inv-loop μ-loop → Step → Type 0
 Said c r =
@@ -44,16 +44,14 @@ took-next : (c : tie.After-next Inv-loop μ-loop) → TookTo step (now (entry (t
 took-next c = record { taken = said-next c .1 .takes }
 
 -- ---- the needs
-first-step-requires : tie.Need-first-step-requires Inv-loop μ-loop
-first-step-requires c κs = search needs
-
 new-requires : tie.Need-new-requires Inv-loop μ-loop
 new-requires c κs = search needs
 
 loop-holds : tie.Need-loop-holds Inv-loop μ-loop
 loop-holds c =
     let made = c .new .ensures in
-    (begin, filling-starts (made .0 ∙ c .before .first-step .ensures) (c .before .before .before .before .before .pre), made .1)
+    let asked = c .before .before .before .before .pre in
+    (begin, filling-starts (made .0 ∙ asked .0) (asked .1), made .1)
 
 step-requires : tie.Need-step-requires Inv-loop μ-loop
 step-requires c κs = let i = c .before .before .loop .inv in within-counts (i .1 .within) (ap heldCounts (i .2))
@@ -96,7 +94,6 @@ fill-spec =
     (tie.spec
     Inv-loop
     μ-loop
-    first-step-requires
     new-requires
     loop-holds
     step-requires

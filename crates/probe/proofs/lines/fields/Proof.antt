@@ -6,10 +6,10 @@ use Rattle.probe.proofs.lines.fields.Statement.{statement}
 use Rattle.probe.proofs.lines.fields.Tie as tie
 
 abbrev Inv-loop : tie.InvT-loop
-Inv-loop to₀ waits numbers waits₀ k₀ to waits' k = k ≤ length numbers
+Inv-loop to₀ numbers waits₀ k₀ to waits k = k ≤ length numbers
 
 abbrev μ-loop : tie.MeasureT-loop
-μ-loop to₀ waits numbers waits₀ k₀ to waits' k = length numbers - k
+μ-loop to₀ numbers waits₀ k₀ to waits k = length numbers - k
 
 loop-holds : tie.Need-loop-holds Inv-loop μ-loop
 loop-holds c = search needs

@@ -6,10 +6,10 @@ use Rattle.probe.proofs.lines.hex.Statement.{statement}
 use Rattle.probe.proofs.lines.hex.Tie as tie
 
 abbrev Inv-loop : tie.InvT-loop
-Inv-loop to₀ waits bytes waits₀ k₀ to waits' k = k ≤ length bytes
+Inv-loop to₀ bytes waits₀ k₀ to waits k = k ≤ length bytes
 
 abbrev μ-loop : tie.MeasureT-loop
-μ-loop to₀ waits bytes waits₀ k₀ to waits' k = length bytes - k
+μ-loop to₀ bytes waits₀ k₀ to waits k = length bytes - k
 
 loop-holds : tie.Need-loop-holds Inv-loop μ-loop
 loop-holds c = search needs

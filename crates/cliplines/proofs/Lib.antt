@@ -1,2 +1,0 @@
--- ranges by what stands around them
-pub mod Between

@@ -1,2 +1,0 @@
--- a byte range that may be missing, and what stands around it
-pub mod Between

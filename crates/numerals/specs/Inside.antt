@@ -1,0 +1,2 @@
+-- the front of a fraction's digits
+pub mod Front
