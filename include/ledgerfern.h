@@ -6,8 +6,9 @@
  * Every call answers for any bytes, any words and any numbers; each is proved to end, and to touch only the memory that
  * it is lent. Nothing is kept after a call and nothing is allocated: text and tables are the caller's, before and after.
  * A pointer must be valid for its length (counted in bytes for a text, in words for a table) and, even where the length
- * is 0, not NULL. What a call writes to may not overlap anything else that it is given. Calls may run at once in several
- * threads, as long as no two share a table that is written.
+ * is 0, not NULL; a table has the alignment of uint64_t, and needs no more. What a call writes to may not overlap
+ * anything else that it is given. Calls may run at once in several threads, as long as no two share a table that is
+ * written.
  *
  * An answer is a struct by value. `number` is 0 where the call is answered, and else the refusal's number, `place` the
  * place in the text that it names; all other fields are then 0, and no lent memory has changed.
@@ -35,12 +36,14 @@ enum ledgerfern_refusal {
     LEDGERFERN_CLIP_TABLE_SHORT = 7, /* the clip table has too few words for the clips; place 0 */
     LEDGERFERN_TAG_TABLE_SHORT = 8,  /* the tag table has too few words for the kept unknown tags; place 0 */
     LEDGERFERN_BROKEN_TABLE = 9,     /* a table breaks the rule of the call; place 0 */
-    LEDGERFERN_OUTPUT_SHORT = 10,    /* the output has too few bytes for the text to write; place 0 */
+    LEDGERFERN_OUTPUT_SHORT = 10,    /* the output has too few bytes, or the table of starts too few words; place 0 */
     LEDGERFERN_TOTAL_TOO_LONG = 11,  /* all lengths together above LEDGERFERN_TOTAL_LIMIT ns; place 0 */
     LEDGERFERN_BAD_RATE = 12,        /* rate 0, or above LEDGERFERN_RATE_LIMIT; place 0 */
     LEDGERFERN_TURN_TOO_LATE = 13,   /* turn above LEDGERFERN_TURN_LIMIT; place 0 */
     LEDGERFERN_NO_SUCH_CLIP = 14,    /* the clip's index is not below the number of clips; place 0 */
-    LEDGERFERN_WINDOW_TOO_FAR = 15   /* a window's end above 2^64 - 1; place 0 */
+    LEDGERFERN_WINDOW_TOO_FAR = 15,  /* a window's end above 2^64 - 1; place 0 */
+    LEDGERFERN_NOTHING_PLAYS = 17,   /* there are no clips, or all lengths together are 0; place 0 */
+    LEDGERFERN_TICK_TOO_LATE = 18    /* a tick at or past the start tick of turn 1,000,000; place 0 */
 };
 
 /* ---- limits ------------------------------------------------------------------------------------------------------- */
@@ -96,6 +99,11 @@ enum ledgerfern_refusal {
 #define LEDGERFERN_REST_START 2
 #define LEDGERFERN_REST_END 3
 
+/* A start's record, as ledgerfern_starts gives it: one for each clip. */
+#define LEDGERFERN_START_WORDS 2
+#define LEDGERFERN_START_NS 0   /* its start within the turn, in ns, exact */
+#define LEDGERFERN_START_TICK 1 /* its start tick, counted from the beginning of turn 0 */
+
 /* ---- answers ------------------------------------------------------------------------------------------------------ */
 
 /* A mark is 1 where it holds, else 0. */
@@ -149,6 +157,28 @@ typedef struct {
 typedef struct {
     uint64_t number;
     uint64_t place;
+    uint64_t clips; /* records in the table of starts */
+} ledgerfern_starts_answer;
+
+typedef struct {
+    uint64_t number;
+    uint64_t place;
+    uint64_t turn;
+    uint64_t clip; /* its index in the table */
+} ledgerfern_on_answer;
+
+typedef struct {
+    uint64_t number;
+    uint64_t place;
+    uint64_t turn;
+    uint64_t clip;  /* its index in the table */
+    uint64_t since; /* how many ticks ago it started */
+    uint64_t left;  /* in how many ticks the next start is; above 0 */
+} ledgerfern_playing_answer;
+
+typedef struct {
+    uint64_t number;
+    uint64_t place;
     uint64_t present; /* a mark: the clip has a range; else start and end are 0 */
     uint64_t start;
     uint64_t end; /* the place after the last byte */
@@ -183,10 +213,16 @@ ledgerfern_written_answer ledgerfern_write(const uint8_t *text, size_t text_leng
 /*
  * The calls below are over a table of clips: `clip_count` is how many records are meant, `clip_words` the table's size.
  * They read the words of lengths, or flags and range, and no others.
+ *
+ * Each call walks the table from its beginning, and keeps nothing. Who asks for the start of one clip after the other
+ * walks it once for every clip, which takes seconds where there are many: ask ledgerfern_starts for all of a turn at once.
  */
 
 /* All lengths together, in ns. Refusals: 9, 11. */
 ledgerfern_value_answer ledgerfern_total(size_t clip_count, const uint64_t *clips, size_t clip_words);
+
+/* A clip's start within its turn, in ns, exact: the lengths before it together. Refusals: 9, 11, 14. */
+ledgerfern_value_answer ledgerfern_start_ns(size_t clip_count, const uint64_t *clips, size_t clip_words, size_t clip);
 
 /*
  * The tick at which a clip starts in a turn, where the list is played turn after turn at `rate` ticks a second: the last
@@ -198,6 +234,30 @@ ledgerfern_value_answer ledgerfern_start_tick(size_t clip_count, const uint64_t 
 /* A clip's ticks in a turn: the next start minus its own, so that they add up. Refusals: 9, 11, 12, 13, 14. */
 ledgerfern_value_answer ledgerfern_clip_ticks(size_t clip_count, const uint64_t *clips, size_t clip_words,
                                               uint64_t rate, uint64_t turn, size_t clip);
+
+/*
+ * All starts of a turn in one pass: of each clip what ledgerfern_start_ns and ledgerfern_start_tick give, as a record of
+ * LEDGERFERN_START_WORDS words in the table of starts. Words past the last record stay as they were. Refusals: 9, 11, 12,
+ * 13, then 10 where `start_words` is below clip_count x LEDGERFERN_START_WORDS.
+ */
+ledgerfern_starts_answer ledgerfern_starts(size_t clip_count, const uint64_t *clips, size_t clip_words, uint64_t rate,
+                                           uint64_t turn, uint64_t *starts, size_t start_words);
+
+/*
+ * Which clip is on at a tick, counted from the beginning of turn 0: the last pair, by turn then clip, up to turn
+ * LEDGERFERN_TURN_LIMIT, whose start tick is not after the tick. So of clips that start at one tick the last is on, and a
+ * clip of length 0 never is. Refusals: 9, 11, 12, 17, 18.
+ */
+ledgerfern_on_answer ledgerfern_clip_at(size_t clip_count, const uint64_t *clips, size_t clip_words, uint64_t rate,
+                                        uint64_t tick);
+
+/*
+ * The same, and when to start the next: the clip started `since` ticks ago, and the next start is in `left` ticks. After
+ * the last clip of turn LEDGERFERN_TURN_LIMIT that is the start of the turn behind it. Both together are what
+ * ledgerfern_clip_ticks gives. This clip stays on for `left` ticks; ask again at tick + left. Refusals: 9, 11, 12, 17, 18.
+ */
+ledgerfern_playing_answer ledgerfern_playing_at(size_t clip_count, const uint64_t *clips, size_t clip_words,
+                                                uint64_t rate, uint64_t tick);
 
 /* The part of its resource that a clip's range names; without an offset it starts at 0. Refusals: 9, 14, 15. */
 ledgerfern_window_answer ledgerfern_window(size_t clip_count, const uint64_t *clips, size_t clip_words, size_t clip);

@@ -1,9 +1,14 @@
 //! The exact clock and the byte window, over a table of clips.
 use crate::refusal::{check, Refusal};
 use crate::{ffi, layout};
+use std::iter::FusedIterator;
 use std::ops::Range;
 
 /// A playlist's clips as the table that the library's calls are over.
+///
+/// A list is played turn after turn; its turns and its clips are counted from 0, its ticks from the beginning of turn 0.
+/// Each call walks the table from its beginning. So for the starts of all clips take [`Clips::starts`], which is one call:
+/// [`Clips::start_tick`] for one clip after the other would walk the table once for every clip.
 #[derive(Clone, Debug, PartialEq, Eq)]
 pub struct Clips {
     words: Vec<u64>,
@@ -29,6 +34,11 @@ impl Clips {
         given(ffi::total(self.len(), &self.words))
     }
 
+    /// A clip's start within its turn, in ns, exact: the lengths before it together. Refusals: 9, 11, 14.
+    pub fn start_ns(&self, clip: usize) -> Result<u64, Refusal> {
+        given(ffi::start_ns(self.len(), &self.words, clip))
+    }
+
     /// The tick at which a clip starts in a turn, at `rate` ticks a second: the last whole tick that is not after the
     /// exact moment. Refusals: 9, 11, 12, 13, 14.
     pub fn start_tick(&self, rate: u64, turn: u64, clip: usize) -> Result<u64, Refusal> {
@@ -38,6 +48,31 @@ impl Clips {
     /// A clip's ticks in a turn: the next start minus its own, so that a turn's ticks add up. Refusals: 9, 11, 12, 13, 14.
     pub fn clip_ticks(&self, rate: u64, turn: u64, clip: usize) -> Result<u64, Refusal> {
         given(ffi::clip_ticks(self.len(), &self.words, rate, turn, clip))
+    }
+
+    /// All starts of a turn at `rate` ticks a second, in the order of the clips: what [`Clips::start_ns`] and
+    /// [`Clips::start_tick`] give for each. One call makes them all, before the first is taken. Refusals: 9, 11, 12, 13.
+    pub fn starts(&self, rate: u64, turn: u64) -> Result<Starts, Refusal> {
+        let mut words = vec![0; self.len().saturating_mul(layout::START_WORDS)];
+        let answer = ffi::starts(self.len(), &self.words, rate, turn, &mut words);
+        check(answer.number, answer.place)?;
+        Ok(Starts { words, left: 0..answer.clips as usize })
+    }
+
+    /// Which clip is on at a tick, at `rate` ticks a second: the last pair, by turn then clip, up to turn 999,999, whose
+    /// start tick is not after the tick. So of clips that start at one tick the last is on, and a clip of length 0 never is.
+    /// Refusals: 9, 11, 12, 17, 18.
+    pub fn clip_at(&self, rate: u64, tick: u64) -> Result<On, Refusal> {
+        let answer = ffi::clip_at(self.len(), &self.words, rate, tick);
+        check(answer.number, answer.place)?;
+        Ok(On { turn: answer.turn, clip: answer.clip as usize })
+    }
+
+    /// Which clip is on at a tick ([`Clips::clip_at`]), since when, and for how long. Refusals: 9, 11, 12, 17, 18.
+    pub fn playing_at(&self, rate: u64, tick: u64) -> Result<Playing, Refusal> {
+        let answer = ffi::playing_at(self.len(), &self.words, rate, tick);
+        check(answer.number, answer.place)?;
+        Ok(Playing { turn: answer.turn, clip: answer.clip as usize, since: answer.since, left: answer.left })
     }
 
     /// The bytes of its resource that a clip's range names, if it has one; without an offset they start at 0.
@@ -52,4 +87,74 @@ impl Clips {
 fn given(answer: ffi::Value) -> Result<u64, Refusal> {
     check(answer.number, answer.place)?;
     Ok(answer.value)
+}
+
+/// When a clip starts in a turn.
+#[derive(Clone, Copy, Debug, PartialEq, Eq, PartialOrd, Ord, Hash)]
+pub struct Start {
+    /// Within the turn, in ns, exact.
+    pub ns: u64,
+    /// The start tick, counted from the beginning of turn 0.
+    pub tick: u64,
+}
+
+/// The starts of a turn, one for each clip, in the order of the clips ([`Clips::starts`]).
+#[derive(Clone, Debug)]
+pub struct Starts {
+    words: Vec<u64>,
+    left: Range<usize>,
+}
+
+impl Starts {
+    fn at(&self, clip: usize) -> Option<Start> {
+        let record = self.words.chunks_exact(layout::START_WORDS).nth(clip)?;
+        Some(Start { ns: *record.get(layout::START_NS)?, tick: *record.get(layout::START_TICK)? })
+    }
+}
+
+impl Iterator for Starts {
+    type Item = Start;
+
+    fn next(&mut self) -> Option<Start> {
+        let clip = self.left.next()?;
+        self.at(clip)
+    }
+
+    fn size_hint(&self) -> (usize, Option<usize>) {
+        self.left.size_hint()
+    }
+}
+
+impl DoubleEndedIterator for Starts {
+    fn next_back(&mut self) -> Option<Start> {
+        let clip = self.left.next_back()?;
+        self.at(clip)
+    }
+}
+
+impl ExactSizeIterator for Starts {}
+
+impl FusedIterator for Starts {}
+
+/// A clip that is on. One pair is less than another where it is played before it: by turn, then by clip.
+#[derive(Clone, Copy, Debug, PartialEq, Eq, PartialOrd, Ord, Hash)]
+pub struct On {
+    /// The turn, 0 to 999,999.
+    pub turn: u64,
+    /// The clip's index, as in [`crate::MediaPlaylist::segments`].
+    pub clip: usize,
+}
+
+/// A clip that is on, since when, and for how long. `since + left` is what [`Clips::clip_ticks`] gives for it.
+#[derive(Clone, Copy, Debug, PartialEq, Eq, Hash)]
+pub struct Playing {
+    /// The turn, 0 to 999,999.
+    pub turn: u64,
+    /// The clip's index, as in [`crate::MediaPlaylist::segments`].
+    pub clip: usize,
+    /// How many ticks ago it started.
+    pub since: u64,
+    /// In how many ticks the next start is, at least 1; after the last clip of turn 999,999 that of turn 1,000,000. This
+    /// clip stays on until then.
+    pub left: u64,
 }

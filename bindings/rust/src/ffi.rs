@@ -46,6 +46,34 @@ pub struct Value {
 
 #[repr(C)]
 #[derive(Clone, Copy)]
+pub struct Starts {
+    pub number: u64,
+    pub place: u64,
+    pub clips: u64,
+}
+
+#[repr(C)]
+#[derive(Clone, Copy)]
+pub struct On {
+    pub number: u64,
+    pub place: u64,
+    pub turn: u64,
+    pub clip: u64,
+}
+
+#[repr(C)]
+#[derive(Clone, Copy)]
+pub struct Playing {
+    pub number: u64,
+    pub place: u64,
+    pub turn: u64,
+    pub clip: u64,
+    pub since: u64,
+    pub left: u64,
+}
+
+#[repr(C)]
+#[derive(Clone, Copy)]
 pub struct Window {
     pub number: u64,
     pub place: u64,
@@ -64,7 +92,7 @@ pub struct Written {
 
 mod calls {
     use super::{Head, Written};
-    use super::{Read, Value, Verdict, Window};
+    use super::{On, Playing, Read, Starts, Value, Verdict, Window};
 
     extern "C" {
         pub fn ledgerfern_verdict(text: *const u8, text_length: usize) -> Verdict;
@@ -77,6 +105,7 @@ mod calls {
             tag_words: usize,
         ) -> Read;
         pub fn ledgerfern_total(clip_count: usize, clips: *const u64, clip_words: usize) -> Value;
+        pub fn ledgerfern_start_ns(clip_count: usize, clips: *const u64, clip_words: usize, clip: usize) -> Value;
         pub fn ledgerfern_start_tick(
             clip_count: usize,
             clips: *const u64,
@@ -93,6 +122,23 @@ mod calls {
             turn: u64,
             clip: usize,
         ) -> Value;
+        pub fn ledgerfern_starts(
+            clip_count: usize,
+            clips: *const u64,
+            clip_words: usize,
+            rate: u64,
+            turn: u64,
+            starts: *mut u64,
+            start_words: usize,
+        ) -> Starts;
+        pub fn ledgerfern_clip_at(clip_count: usize, clips: *const u64, clip_words: usize, rate: u64, tick: u64) -> On;
+        pub fn ledgerfern_playing_at(
+            clip_count: usize,
+            clips: *const u64,
+            clip_words: usize,
+            rate: u64,
+            tick: u64,
+        ) -> Playing;
         pub fn ledgerfern_window(clip_count: usize, clips: *const u64, clip_words: usize, clip: usize) -> Window;
         pub fn ledgerfern_write(
             text: *const u8,
@@ -131,12 +177,30 @@ pub fn total(clip_count: usize, clips: &[u64]) -> Value {
     unsafe { calls::ledgerfern_total(clip_count, clips.as_ptr(), clips.len()) }
 }
 
+pub fn start_ns(clip_count: usize, clips: &[u64], clip: usize) -> Value {
+    unsafe { calls::ledgerfern_start_ns(clip_count, clips.as_ptr(), clips.len(), clip) }
+}
+
 pub fn start_tick(clip_count: usize, clips: &[u64], rate: u64, turn: u64, clip: usize) -> Value {
     unsafe { calls::ledgerfern_start_tick(clip_count, clips.as_ptr(), clips.len(), rate, turn, clip) }
 }
 
 pub fn clip_ticks(clip_count: usize, clips: &[u64], rate: u64, turn: u64, clip: usize) -> Value {
     unsafe { calls::ledgerfern_clip_ticks(clip_count, clips.as_ptr(), clips.len(), rate, turn, clip) }
+}
+
+pub fn starts(clip_count: usize, clips: &[u64], rate: u64, turn: u64, starts: &mut [u64]) -> Starts {
+    unsafe {
+        calls::ledgerfern_starts(clip_count, clips.as_ptr(), clips.len(), rate, turn, starts.as_mut_ptr(), starts.len())
+    }
+}
+
+pub fn clip_at(clip_count: usize, clips: &[u64], rate: u64, tick: u64) -> On {
+    unsafe { calls::ledgerfern_clip_at(clip_count, clips.as_ptr(), clips.len(), rate, tick) }
+}
+
+pub fn playing_at(clip_count: usize, clips: &[u64], rate: u64, tick: u64) -> Playing {
+    unsafe { calls::ledgerfern_playing_at(clip_count, clips.as_ptr(), clips.len(), rate, tick) }
 }
 
 pub fn window(clip_count: usize, clips: &[u64], clip: usize) -> Window {

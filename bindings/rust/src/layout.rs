@@ -25,6 +25,10 @@ pub const NAME_END: usize = 1;
 pub const REST_START: usize = 2;
 pub const REST_END: usize = 3;
 
+pub const START_WORDS: usize = 2;
+pub const START_NS: usize = 0;
+pub const START_TICK: usize = 1;
+
 pub const HAS_RANGE: u64 = 1;
 pub const HAS_RANGE_OFFSET: u64 = 2;
 pub const HAS_DISCONTINUITY: u64 = 4;

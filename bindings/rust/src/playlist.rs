@@ -1,5 +1,5 @@
 //! A media playlist as values, with the names that m3u8-rs gives them.
-use crate::{tables, Clips, Refusal};
+use crate::{tables, Clips, On, Playing, Refusal, Starts};
 use std::fmt;
 use std::ops::Range;
 use std::str::FromStr;
@@ -28,7 +28,8 @@ pub struct MediaPlaylist {
 }
 
 impl MediaPlaylist {
-    /// The table of its clips, for the clock and the window. Make it once where several answers are wanted.
+    /// The table of its clips, for the clock and the window. The shortcuts below make it anew at each call, which copies
+    /// every string of the list: where more than one answer is wanted, make it once and ask it.
     pub fn clips(&self) -> Clips {
         Clips::new(tables::pack(self).clips)
     }
@@ -36,6 +37,11 @@ impl MediaPlaylist {
     /// All lengths together, in ns.
     pub fn total(&self) -> Result<u64, Refusal> {
         self.clips().total()
+    }
+
+    /// A clip's start within its turn, in ns ([`Clips::start_ns`]).
+    pub fn start_ns(&self, clip: usize) -> Result<u64, Refusal> {
+        self.clips().start_ns(clip)
     }
 
     /// The tick at which a clip starts in a turn ([`Clips::start_tick`]).
@@ -46,6 +52,22 @@ impl MediaPlaylist {
     /// A clip's ticks in a turn ([`Clips::clip_ticks`]).
     pub fn clip_ticks(&self, rate: u64, turn: u64, clip: usize) -> Result<u64, Refusal> {
         self.clips().clip_ticks(rate, turn, clip)
+    }
+
+    /// All starts of a turn ([`Clips::starts`]): one table and one call, whatever the number of clips.
+    pub fn starts(&self, rate: u64, turn: u64) -> Result<Starts, Refusal> {
+        self.clips().starts(rate, turn)
+    }
+
+    /// Which clip is on at a tick ([`Clips::clip_at`]). A cabinet that asks at every tick keeps [`MediaPlaylist::clips`].
+    pub fn clip_at(&self, rate: u64, tick: u64) -> Result<On, Refusal> {
+        self.clips().clip_at(rate, tick)
+    }
+
+    /// Which clip is on at a tick, since when, and for how long ([`Clips::playing_at`]). Who asks again and again keeps
+    /// [`MediaPlaylist::clips`].
+    pub fn playing_at(&self, rate: u64, tick: u64) -> Result<Playing, Refusal> {
+        self.clips().playing_at(rate, tick)
     }
 
     /// Its text, byte for byte as the library writes it. Refusals: 1 where its strings are above 65,536 bytes together; 9

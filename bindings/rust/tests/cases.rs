@@ -1,6 +1,7 @@
-//! The binding's tests: values by hand from document 01's examples. A program of its own (`harness = false`), so that it
-//! also runs where the usual start of a Rust program can't.
+//! The binding's tests: values by hand from document 01's examples, and the clock beside sums made here. A program of its
+//! own (`harness = false`), so that it also runs where the usual start of a Rust program can't.
 use ledgerfern::*;
+use std::ops::RangeInclusive;
 
 const SHEET: &[u8] = b"#EXTM3U\n#EXTINF:9.009,bird\na.ts\n#EXTINF:0.004,\nb.ts\n#EXTINF:3.003,\nc.ts\n";
 
@@ -15,6 +16,36 @@ fn refused(text: &[u8]) -> (u64, usize) {
 
 fn uris(list: &MediaPlaylist) -> Vec<&str> {
     list.segments.iter().map(|segment| segment.uri.as_str()).collect()
+}
+
+/// The clips of a list with these lengths in ns.
+fn lasting(lengths: &[u64]) -> Clips {
+    let mut list = MediaPlaylist::default();
+    for ns in lengths {
+        let mut segment = MediaSegment::empty();
+        segment.set_duration_ns(*ns);
+        list.segments.push(segment);
+    }
+    list.clips()
+}
+
+fn refusal<T>(number: u64) -> Result<T, Refusal> {
+    Err(Refusal { number, place: 0 })
+}
+
+/// Numbers that nobody chose, and that are the same in each run.
+struct Chance(u64);
+
+impl Chance {
+    fn upto(&mut self, most: u64) -> u64 {
+        self.0 = self.0.wrapping_mul(6_364_136_223_846_793_005).wrapping_add(1_442_695_040_888_963_407);
+        (self.0 >> 16) % (most + 1)
+    }
+
+    /// Up to so many lengths, a quarter of them 0.
+    fn lengths(&mut self, most_clips: u64, most_ns: u64) -> Vec<u64> {
+        (0..self.upto(most_clips)).map(|_| if self.upto(3) == 0 { 0 } else { self.upto(most_ns) }).collect()
+    }
 }
 
 fn the_sheet() {
@@ -59,6 +90,229 @@ fn too_long_for_the_clock() {
     segment.set_duration_ns(u64::MAX);
     list.segments.push(segment);
     assert_eq!(list.total(), Err(Refusal { number: 9, place: 0 }));
+}
+
+fn the_starts() {
+    let list = parse_media_playlist_res(SHEET).expect("the sheet is read");
+    let clips = list.clips();
+    let starts: Vec<_> = (0..4).map(|clip| clips.start_ns(clip)).collect();
+    assert_eq!(starts, [Ok(0), Ok(9_009_000_000), Ok(9_013_000_000), refusal(14)]);
+    assert_eq!(list.start_ns(1), Ok(9_009_000_000));
+    for (turn, ticks) in [(0, [0, 900, 901]), (1, [1201, 2102, 2102]), (2, [2403, 3304, 3304])] {
+        let starts: Vec<Start> = clips.starts(100, turn).expect("the turn has starts").collect();
+        let hand = [(0, ticks[0]), (9_009_000_000, ticks[1]), (9_013_000_000, ticks[2])];
+        assert_eq!(starts, hand.map(|(ns, tick)| Start { ns, tick }));
+        assert!(list.starts(100, turn).expect("the turn has starts").eq(starts));
+    }
+}
+
+fn starts_refused() {
+    let clips = parse_media_playlist_res(SHEET).expect("the sheet is read").clips();
+    let none = lasting(&[]);
+    assert_eq!(none.starts(100, 0).map(|starts| starts.len()), Ok(0));
+    assert_eq!(none.start_ns(0), refusal(14));
+    // In the order of the calls: 9, 11, 12, 13.
+    let too_long = lasting(&[1_000_000_000_000_000, 1]);
+    let broken = lasting(&[1_000_000_000_000_000, 1_000_000_000_000_000_000]);
+    assert_eq!(broken.starts(0, 1_000_000).err(), Some(Refusal { number: 9, place: 0 }));
+    assert_eq!(too_long.starts(0, 1_000_000).err(), Some(Refusal { number: 11, place: 0 }));
+    for rate in [0, 90_001, u64::MAX] {
+        assert_eq!(clips.starts(rate, 1_000_000).err(), Some(Refusal { number: 12, place: 0 }));
+        assert_eq!(none.starts(rate, 0).err(), Some(Refusal { number: 12, place: 0 }));
+    }
+    assert_eq!(clips.starts(90_000, 1_000_000).err(), Some(Refusal { number: 13, place: 0 }));
+    assert_eq!(clips.starts(90_000, 999_999).map(|starts| starts.len()), Ok(3));
+    assert_eq!((broken.start_ns(2), too_long.start_ns(2)), (refusal(9), refusal(11)));
+}
+
+/// The starts can be taken from both ends; what was taken is gone, and after the last there is none.
+fn starts_from_both_ends() {
+    let starts = lasting(&[5, 7, 0, 9]).starts(90_000, 0).expect("the turn has starts");
+    let ns = |start: Start| start.ns;
+    assert_eq!(starts.clone().map(ns).collect::<Vec<_>>(), [0, 5, 12, 12]);
+    assert_eq!(starts.clone().rev().map(ns).collect::<Vec<_>>(), [12, 12, 5, 0]);
+    let mut left = starts.clone();
+    assert_eq!((left.len(), left.size_hint()), (4, (4, Some(4))));
+    assert_eq!((left.next().map(ns), left.next_back().map(ns), left.len()), (Some(0), Some(12), 2));
+    assert_eq!((left.nth(1).map(ns), left.len()), (Some(12), 0));
+    assert_eq!((left.next(), left.next_back(), left.next()), (None, None, None));
+    assert_eq!(starts.len(), 4);
+    assert!(format!("{:?}", starts).starts_with("Starts"));
+}
+
+/// All starts at once are those asked one by one, and the sums that they should be.
+fn starts_agree() {
+    let mut chance = Chance(1);
+    for digits in 0..=12 {
+        for _ in 0..20 {
+            let lengths = chance.lengths(40, 10u64.pow(digits));
+            let (rate, turn) = (1 + chance.upto(89_999), chance.upto(999_999));
+            let clips = lasting(&lengths);
+            let starts = clips.starts(rate, turn).expect("the turn has starts");
+            assert_eq!(starts.len(), lengths.len());
+            let total: u64 = lengths.iter().sum();
+            let mut before = 0;
+            for (clip, start) in starts.enumerate() {
+                let moment = u128::from(turn) * u128::from(total) + u128::from(before);
+                let tick = moment * u128::from(rate) / 1_000_000_000;
+                assert_eq!((start.ns, u128::from(start.tick)), (before, tick));
+                assert_eq!(clips.start_ns(clip), Ok(start.ns));
+                assert_eq!(clips.start_tick(rate, turn, clip), Ok(start.tick));
+                before += lengths[clip];
+            }
+        }
+    }
+}
+
+fn what_is_on() {
+    let list = parse_media_playlist_res(SHEET).expect("the sheet is read");
+    let clips = list.clips();
+    for (tick, turn, clip, since, left) in [
+        (0, 0, 0, 0, 900),
+        (899, 0, 0, 899, 1),
+        (900, 0, 1, 0, 1),
+        (901, 0, 2, 0, 300),
+        (1200, 0, 2, 299, 1),
+        (1201, 1, 0, 0, 901),
+        (2102, 1, 2, 0, 301), // clip 1 starts at the same tick
+        (3304, 2, 2, 0, 300), // and here too
+        (1_201_599_999, 999_999, 2, 300, 1),
+    ] {
+        assert_eq!(clips.clip_at(100, tick), Ok(On { turn, clip }));
+        assert_eq!(clips.playing_at(100, tick), Ok(Playing { turn, clip, since, left }));
+        assert_eq!(list.clip_at(100, tick), clips.clip_at(100, tick));
+        assert_eq!(list.playing_at(100, tick), clips.playing_at(100, tick));
+    }
+    // The start tick of a clip counts, not its moment.
+    let halves = lasting(&[500_000_000, 500_000_000]);
+    assert_eq!(halves.playing_at(1, 0), Ok(Playing { turn: 0, clip: 1, since: 0, left: 1 }));
+    assert_eq!(halves.clip_at(2, 0), Ok(On { turn: 0, clip: 0 }));
+    // A million turns within one tick: the last of them.
+    let shortest = lasting(&[1]);
+    assert_eq!(shortest.playing_at(1000, 0), Ok(Playing { turn: 999_999, clip: 0, since: 0, left: 1 }));
+    // A clip of length 0 is never on.
+    let still = lasting(&[0, 1_000_000_000, 0]);
+    for tick in [0, 1, 2, 999_999] {
+        assert_eq!(still.playing_at(1, tick), Ok(Playing { turn: tick, clip: 1, since: 0, left: 1 }));
+    }
+    // The largest tick that is answered.
+    let longest = lasting(&[1_000_000_000_000_000]);
+    let last = Playing { turn: 999_999, clip: 0, since: 89_999_999_999, left: 1 };
+    assert_eq!(longest.playing_at(90_000, 89_999_999_999_999_999), Ok(last));
+    assert!(On { turn: 0, clip: 2 } < On { turn: 1, clip: 0 } && On { turn: 1, clip: 0 } < On { turn: 1, clip: 1 });
+}
+
+/// A clip that is on, by both calls, which give the same.
+fn on(clips: &Clips, rate: u64, tick: u64) -> Result<Playing, Refusal> {
+    let playing = clips.playing_at(rate, tick);
+    assert_eq!(clips.clip_at(rate, tick), playing.map(|now| On { turn: now.turn, clip: now.clip }));
+    playing
+}
+
+fn on_refused() {
+    let clips = parse_media_playlist_res(SHEET).expect("the sheet is read").clips();
+    let (none, nothing, shortest) = (lasting(&[]), lasting(&[0, 0]), lasting(&[1]));
+    let longest = lasting(&[1_000_000_000_000_000]);
+    // In the order of the calls: 9, 11, 12, 17, 18.
+    assert_eq!(on(&lasting(&[1_000_000_000_000_000_000]), 0, u64::MAX), refusal(9));
+    assert_eq!(on(&lasting(&[1_000_000_000_000_000, 1]), 0, u64::MAX), refusal(11));
+    for rate in [0, 90_001, u64::MAX] {
+        assert_eq!(on(&none, rate, u64::MAX), refusal(12));
+        assert_eq!(on(&clips, rate, 0), refusal(12));
+    }
+    for tick in [0, u64::MAX] {
+        assert_eq!(on(&none, 100, tick), refusal(17));
+        assert_eq!(on(&nothing, 100, tick), refusal(17));
+    }
+    // The first tick that is too late, and those after it.
+    for (clips, rate, end) in [
+        (&clips, 100, 1_201_600_000),
+        (&shortest, 999, 0),
+        (&shortest, 1000, 1),
+        (&longest, 90_000, 90_000_000_000_000_000),
+    ] {
+        for tick in [end, end + 1, 1 << 63, u64::MAX] {
+            assert_eq!(on(clips, rate, tick), refusal(18));
+        }
+    }
+    assert_eq!(Refusal { number: 17, place: 0 }.reason(), "nothing plays: there are no clips, or the total is 0");
+    assert_eq!(Refusal { number: 18, place: 0 }.reason(), "the tick is at or past the start tick of turn 1,000,000");
+}
+
+/// At each tick of these turns the last pair that has started is on, by the clock's own starts and ticks. The tick after
+/// them.
+fn each_tick_agrees(clips: &Clips, rate: u64, turns: RangeInclusive<u64>) -> u64 {
+    let mut pairs = Vec::new();
+    for turn in turns {
+        let starts = (0..clips.len()).map(|clip| clips.start_tick(rate, turn, clip).expect("a start"));
+        pairs.extend(starts.enumerate().map(|(clip, start)| (start, On { turn, clip })));
+    }
+    let ticks = |on: On| clips.clip_ticks(rate, on.turn, on.clip).expect("a clip's ticks");
+    let (first, (last, pair)) = (pairs[0].0, pairs[pairs.len() - 1]);
+    let end = last + ticks(pair);
+    for tick in first..end {
+        let (start, pair) = *pairs.iter().rfind(|(start, _)| *start <= tick).expect("a pair that has started");
+        let now = on(clips, rate, tick).expect("a clip is on");
+        assert_eq!((now.turn, now.clip, now.since), (pair.turn, pair.clip, tick - start));
+        assert!(0 < now.left && now.since + now.left == ticks(pair));
+    }
+    end
+}
+
+fn on_agrees() {
+    let mut chance = Chance(2);
+    let mut played = 0;
+    for _ in 0..400 {
+        let lengths = chance.lengths(6, 3_000_000_000);
+        let rate = 1 + chance.upto(12);
+        let clips = lasting(&lengths);
+        if lengths.iter().sum::<u64>() == 0 {
+            assert_eq!(on(&clips, rate, 0), refusal(17));
+            continue;
+        }
+        played += each_tick_agrees(&clips, rate, 0..=2);
+        let end = each_tick_agrees(&clips, rate, 999_998..=999_999);
+        assert_eq!(on(&clips, rate, end), refusal(18));
+    }
+    assert!(1000 < played);
+}
+
+/// At any tick of any turn: the last moment of the tick lies in the turn and in the clip that are on.
+fn on_by_sums() {
+    let mut chance = Chance(3);
+    for digits in 0..=14 {
+        for _ in 0..40 {
+            let lengths = chance.lengths(10, 10u64.pow(digits));
+            let rate = 1 + chance.upto(89_999);
+            let clips = lasting(&lengths);
+            let total = u128::from(lengths.iter().sum::<u64>());
+            let end = 1_000_000 * total * u128::from(rate) / 1_000_000_000;
+            let tick = chance.upto(end as u64);
+            if total == 0 || end == u128::from(tick) {
+                assert_eq!(on(&clips, rate, tick), refusal(if total == 0 { 17 } else { 18 }));
+                continue;
+            }
+            let moment = ((u128::from(tick) + 1) * 1_000_000_000 - 1) / u128::from(rate);
+            let now = on(&clips, rate, tick).expect("a clip is on");
+            let before = u128::from(lengths[..now.clip].iter().sum::<u64>());
+            let after = before + u128::from(lengths[now.clip]);
+            assert_eq!(u128::from(now.turn), moment / total);
+            assert!(before <= moment % total && moment % total < after);
+            assert_eq!(clips.start_tick(rate, now.turn, now.clip), Ok(tick - now.since));
+            assert_eq!(clips.clip_ticks(rate, now.turn, now.clip), Ok(now.since + now.left));
+        }
+    }
+}
+
+/// A cabinet that waits until the next start, and asks again, is told that a clip has just started.
+fn from_start_to_start() {
+    let clips = lasting(&[9_009_000_000, 0, 4_000_000, 3_003_000_000]);
+    let mut tick = 0;
+    for _ in 0..1000 {
+        let now = clips.playing_at(7, tick).expect("a clip is on");
+        assert_eq!((now.since, on(&clips, 7, tick + now.left - 1).map(|later| later.since)), (0, Ok(now.left - 1)));
+        tick += now.left;
+    }
 }
 
 fn lengths_in_both_forms() {
@@ -247,6 +501,15 @@ const CASES: &[Case] = &[
     ("the sheet", the_sheet),
     ("the clock", the_clock),
     ("too long for the clock", too_long_for_the_clock),
+    ("the starts", the_starts),
+    ("starts refused", starts_refused),
+    ("starts from both ends", starts_from_both_ends),
+    ("starts agree", starts_agree),
+    ("what is on", what_is_on),
+    ("on refused", on_refused),
+    ("on agrees", on_agrees),
+    ("on by sums", on_by_sums),
+    ("from start to start", from_start_to_start),
     ("lengths in both forms", lengths_in_both_forms),
     ("windows", windows),
     ("heads", heads),

@@ -10,7 +10,7 @@ use Rattle.tables.specs.Refusal.{Answer, refused, given, brokenTable, totalTooL
 use Rattle.tables.proofs.Refusals.{Front, front-or, front-then, front-as}
 use Rattle.tables.specs.Layout.{second}
 use Rattle.clock.specs.Clock.{largestTotal, largestRate, lastTurn, sumLengths, keepsRule, momentOf, tickOf, ticksOf}
-use Rattle.clock.specs.Calls.{timed, inTurn, ofClip, startNs, startTick, clipTicks}
+use Rattle.clock.specs.Calls.{timed, atRate, inTurn, ofClip, startNs, startTick, clipTicks}
 use Rattle.clock.proofs.Moments.{tick-low, tick-high}
 
 -- ---- 9, 11
@@ -36,36 +36,58 @@ module _ (t : List ℕ) (n : ℕ) where
     unfolding timed
     timed-11 e h = rw (e, lt-leb (sumLengths t n) largestTotal h)
 
--- ---- 12, 13
+-- ---- 12
+pub record AtRate (t : List ℕ) (n rate : ℕ) : Type 0 where
+  pub table : Timed t n
+  pub rate-low : 1 ≤ rate
+  pub rate-high : rate ≤ largestRate
+
+module _ (t : List ℕ) (n rate : ℕ) where
+  pub rate-front : Front (λ A x. atRate t n rate x) (AtRate t n rate)
+  unfolding atRate
+  rate-front =
+      front-as _
+      (λ h. let r = and-eq-true-iff (leb 1 rate) (leb rate largestRate) .0 (h .1) in
+      record { table = h .0; rate-low = leb-true 1 rate (r .0); rate-high = leb-true rate largestRate (r .1) })
+      (λ g. (g .table, rw (le-leb 1 rate (g .rate-low), le-leb rate largestRate (g .rate-high))))
+      (front-then _ _ (timed-front t n) (front-or badRate 0 (leb 1 rate && leb rate largestRate)))
+
+  module _ {A : Type 0} (x : Answer A) (g : Timed t n) where
+    pub rate-12-low : rate < 1 → atRate t n rate x ≡ refused badRate 0
+    unfolding atRate
+    rate-12-low l = timed-front t n .on _ g ∙ rw (lt-leb 1 rate l)
+
+    pub rate-12-high : largestRate < rate → atRate t n rate x ≡ refused badRate 0
+    unfolding atRate
+    rate-12-high h = timed-front t n .on _ g ∙ rw (lt-leb rate largestRate h, and-false (leb 1 rate))
+
+-- ---- 13
 pub record InTurn (t : List ℕ) (n rate turn : ℕ) : Type 0 where
   pub table : Timed t n
   pub rate-low : 1 ≤ rate
   pub rate-high : rate ≤ largestRate
   pub turn-high : turn ≤ lastTurn
 
+-- a turn at a rate, and the rate of a turn
+module _ (t : List ℕ) (n rate turn : ℕ) where
+  pub turn-at : AtRate t n rate → turn ≤ lastTurn → InTurn t n rate turn
+  turn-at g h = record { table = g .table; rate-low = g .rate-low; rate-high = g .rate-high; turn-high = h }
+
+  pub rate-of : InTurn t n rate turn → AtRate t n rate
+  rate-of g = record { table = g .table; rate-low = g .rate-low; rate-high = g .rate-high }
+
 module _ (t : List ℕ) (n rate turn : ℕ) where
   pub turn-front : Front (λ A x. inTurn t n rate turn x) (InTurn t n rate turn)
   unfolding inTurn
   turn-front =
       front-as _
-      (λ h. let r = and-eq-true-iff (leb 1 rate) (leb rate largestRate) .0 (h .1 .0) in
-      record { table = h .0; rate-low = leb-true 1 rate (r .0); rate-high = leb-true rate largestRate (r .1); turn-high = leb-true turn lastTurn (h .1 .1) })
-      (λ g. (g .table, (rw (le-leb 1 rate (g .rate-low), le-leb rate largestRate (g .rate-high)), le-leb turn lastTurn (g .turn-high))))
-      (front-then _ _ (timed-front t n)
-      (front-then _ _ (front-or badRate 0 (leb 1 rate && leb rate largestRate)) (front-or turnTooLate 0 (leb turn lastTurn))))
+      (λ h. turn-at t n rate turn (h .0) (leb-true turn lastTurn (h .1)))
+      (λ g. (rate-of t n rate turn g, le-leb turn lastTurn (g .turn-high)))
+      (front-then _ _ (rate-front t n rate) (front-or turnTooLate 0 (leb turn lastTurn)))
 
-  module _ {A : Type 0} (x : Answer A) (g : Timed t n) where
-    pub turn-12-low : rate < 1 → inTurn t n rate turn x ≡ refused badRate 0
-    unfolding inTurn
-    turn-12-low l = timed-front t n .on _ g ∙ rw (lt-leb 1 rate l)
-
-    pub turn-12-high : largestRate < rate → inTurn t n rate turn x ≡ refused badRate 0
-    unfolding inTurn
-    turn-12-high h = timed-front t n .on _ g ∙ rw (lt-leb rate largestRate h, and-false (leb 1 rate))
-
-    pub turn-13 : 1 ≤ rate → rate ≤ largestRate → lastTurn < turn → inTurn t n rate turn x ≡ refused turnTooLate 0
-    unfolding inTurn
-    turn-13 l h u = timed-front t n .on _ g ∙ rw (le-leb 1 rate l, le-leb rate largestRate h, lt-leb turn lastTurn u)
+  pub turn-13 : {A : Type 0} (x : Answer A) → AtRate t n rate → lastTurn < turn → inTurn t n rate turn x ≡ refused turnTooLate 0
+  unfolding inTurn
+  turn-13 x g u = rate-front t n rate .on _ g ∙ rw (lt-leb turn lastTurn u)
 
 -- ---- 14
 module _ (n clip : ℕ) where

@@ -4,8 +4,6 @@ pub mod Lengths
 pub mod Moments
 -- the calls' answers, row by row
 pub mod Calls
--- all starts in one pass
-pub mod Pass
 -- no second result fits
 pub mod Only
 -- from the code's results to the rules

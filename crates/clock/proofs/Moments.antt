@@ -7,9 +7,10 @@ use Prim.Native.Nat.{ℕ, zero, suc, _+_, _-_, _*_, _/_, _%_, _^_, _≤_, _<_}
 use native.Mathlib.Nat.{mul-le-mul, mul-le-mul-right, div-mul-le-self, div-add-mod', lt-div-mul-add, mul-add-div-right}
 use native.Mathlib.Omega.{arith}
 use lib.Dec.{lit<, ltb}
-use borrow.Author.Tests.{ltb-false}
+use borrow.Author.Tests.{ltb-false, le-leb}
 use Rattle.tables.specs.Layout.{second}
-use Rattle.clock.specs.Clock.{largestTotal, largestRate, lastTurn, sumLengths, momentOf, nextMoment, tickOf, ticksOf, sumTicks}
+use Rattle.clock.specs.Clock.{largestTotal, largestRate, turns, sumLengths, momentOf, nextMoment, tickOf, ticksOf, sumTicks}
+use Rattle.clock.specs.Inside.Ticks.{inReach, tickAt}
 use Rattle.clock.proofs.Lengths.{sum-mono}
 
 -- ---- one tick
@@ -107,10 +108,10 @@ pub record Small (turn whole before : ℕ) : Type 0 where
   pub rest : restOf turn whole before ≤ 2 * largestTotal
   pub seconds : secondsOf turn whole before ≤ manySeconds
 
-pub small : (turn whole before : ℕ) → turn ≤ lastTurn → whole ≤ largestTotal → before ≤ whole → Small turn whole before
+pub small : (turn whole before : ℕ) → turn ≤ turns → whole ≤ largestTotal → before ≤ whole → Small turn whole before
 small turn whole before ht hw hb =
-    let p : turn * (whole % second) ≤ lastTurn * second = mul-le-mul {n₂ = lastTurn} {m₂ = second} ht (omega arith) in
-    let q : turn * (whole / second) ≤ lastTurn * (largestTotal / second) = mul-le-mul {n₂ = lastTurn} {m₂ = largestTotal / second} ht (omega arith) in
+    let p : turn * (whole % second) ≤ turns * second = mul-le-mul {n₂ = turns} {m₂ = second} ht (omega arith) in
+    let q : turn * (whole / second) ≤ turns * (largestTotal / second) = mul-le-mul {n₂ = turns} {m₂ = largestTotal / second} ht (omega arith) in
     record { rest = omega arith; seconds = omega arith }
 
 pub product-fits : {x rate : ℕ} → x ≤ manySeconds → rate ≤ largestRate → x * rate < 2 ^ 64
@@ -120,3 +121,13 @@ pub sum-fits : {x y rate : ℕ} → x ≤ manySeconds → y < second → rate �
 sum-fits {x} {y} {rate} h l r =
     let p : y * rate ≤ second * largestRate = mul-le-mul {n₂ = second} (omega arith) r in
     omega (arith, mul-le-mul {n₂ = manySeconds} h r)
+
+-- ---- a tick for any numbers: in reach it is the moment's
+module _ (turn whole before rate : ℕ) (t : turn ≤ turns) (w : whole ≤ largestTotal) (b : before ≤ whole) (r : rate ≤ largestRate) where
+  in-reach : inReach turn whole before rate ≡ true
+  unfolding inReach
+  in-reach = rw (le-leb turn turns t, le-leb whole largestTotal w, le-leb before whole b, le-leb rate largestRate r)
+
+  pub tick-in-reach : tickAt turn whole before rate ≡ tickOf (turn * whole + before) rate
+  unfolding tickAt
+  tick-in-reach = rw in-reach

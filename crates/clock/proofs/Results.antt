@@ -13,10 +13,10 @@ use Rattle.clock.specs.declared.Answer as answerᵈ
 use Rattle.clock.specs.declared.Answer.the-variants as answerᵛ
 use Rattle.clock.specs.Answers.{answerOf}
 use Rattle.clock.specs.Clock.{largestTotal, sumLengths, momentOf, tickOf, ticksOf}
-use Rattle.clock.specs.Calls.{inTurn, ofClip, total}
+use Rattle.clock.specs.Calls.{atRate, inTurn, ofClip, total}
 use Rattle.clock.proofs.Lengths.{sum-mono}
 use Rattle.clock.proofs.Moments.{next-moment, clips-rise}
-use Rattle.clock.proofs.Calls.{Timed, timed-front, InTurn, turn-front, clip-turn-front}
+use Rattle.clock.proofs.Calls.{Timed, timed-front, AtRate, rate-front, InTurn, turn-front, clip-turn-front}
 
 -- a result that refuses meets every rule that refuses alike
 pub refused-result : (x y : Answer ℕ) (a : answerᵈ.Answer) (r : refusalᵈ.Refusal) → RefusesAs x y → answerOf a ≡ x → a ≡ answerᵛ.Refused r → answerOf a ≡ y
@@ -26,6 +26,16 @@ refused-result x y a r f p e = ap answerOf e ∙ sym (f (refusalOf r) 0 (sym p �
 pub total-result : (t : List ℕ) (n v : ℕ) (a : answerᵈ.Answer) → answerOf a ≡ total t n → a ≡ answerᵛ.Given v → Timed t n
 unfolding total
 total-result t n v a p e = timed-front t n .passed _ v (sym p ∙ ap answerOf e) .0
+
+pub record Rated (t : List ℕ) (n rate whole : ℕ) : Type 0 where
+  pub on : AtRate t n rate
+  pub sum : whole ≡ sumLengths t n
+
+pub rate-result : (t : List ℕ) (n rate v : ℕ) (a : answerᵈ.Answer) → answerOf a ≡ atRate t n rate (given (sumLengths t n)) → a ≡ answerᵛ.Given v → Rated t n rate v
+rate-result t n rate v a p e =
+    let g = rate-front t n rate .passed _ v (sym p ∙ ap answerOf e) in
+    let q : given (sumLengths t n) ≡ given v = g .1 in
+    record { on = g .0; sum = cc }
 
 pub record Whole (t : List ℕ) (n rate turn whole : ℕ) : Type 0 where
   pub on : InTurn t n rate turn

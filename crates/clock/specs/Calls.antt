@@ -14,13 +14,19 @@ timed t n rest =
     (orRefuse (leb (sumLengths t n) largestTotal) totalTooLong 0
     rest)
 
--- 9, 11, 12, 13: what every call weighs first that answers by ticks of a turn
-unfoldable pub inTurn : {A : Type 0} → List ℕ → ℕ → ℕ → ℕ → Answer A → Answer A
-inTurn t n rate turn rest =
+-- then 12: what every call weighs first that answers by ticks
+unfoldable pub atRate : {A : Type 0} → List ℕ → ℕ → ℕ → Answer A → Answer A
+atRate t n rate rest =
     timed t n
     (orRefuse (leb 1 rate && leb rate largestRate) badRate 0
+    rest)
+
+-- then 13: what every call weighs first that answers by ticks of a turn
+unfoldable pub inTurn : {A : Type 0} → List ℕ → ℕ → ℕ → ℕ → Answer A → Answer A
+inTurn t n rate turn rest =
+    atRate t n rate
     (orRefuse (leb turn lastTurn) turnTooLate 0
-    rest))
+    rest)
 
 -- then 14
 unfoldable pub ofClip : {A : Type 0} → ℕ → ℕ → Answer A → Answer A

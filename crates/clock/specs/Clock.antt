@@ -18,6 +18,10 @@ largestRate = 90000
 abbrev pub lastTurn : ℕ
 lastTurn = 999999
 
+-- how many turns that makes; the last one ends where turn 1,000,000 would start
+abbrev pub turns : ℕ
+turns = lastTurn + 1
+
 -- ---- lengths
 -- the length of clip k, in ns
 abbrev pub lengthOf : List ℕ → ℕ → ℕ

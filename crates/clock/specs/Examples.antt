@@ -8,15 +8,14 @@ use Rattle.tables.specs.Layout as layout
 use Rattle.tables.specs.Table.{every, fits}
 use Rattle.tables.specs.Refusal.{given, refused, brokenTable, totalTooLong, badRate, turnTooLate, noSuchClip}
 use Rattle.clock.specs.Clock.{keepsRule, sumLengths, momentOf, nextMoment, tickOf, ticksOf}
-use Rattle.clock.specs.Calls.{timed, inTurn, ofClip, total, startNs, startTick, clipTicks}
-use Rattle.clock.specs.Starts.{cursor, row, done, clip, starts, inLimits, next}
+use Rattle.clock.specs.Calls.{timed, atRate, inTurn, ofClip, total, startNs, startTick, clipTicks}
 
 -- a record of zeros but for its length
-abbrev clipOf : ℕ → List ℕ
+abbrev pub clipOf : ℕ → List ℕ
 clipOf ns = set (replicate layout.clipWords 0) layout.lengthNs ns
 
 -- ---- the turn sheet: clips of 9.009, 0.004 and 3.003 s
-abbrev sheet : List ℕ
+abbrev pub sheet : List ℕ
 sheet = clipOf 9009000000 ++ (clipOf 4000000 ++ clipOf 3003000000)
 
 sheet-total : total sheet 3 ≡ given 12016000000
@@ -28,40 +27,27 @@ unfolding startNs ofClip timed keepsRule fits every sumLengths
 sheet-starts = refl
 
 sheet-ticks : map (startTick sheet 3 100 0) (0 ∷ 1 ∷ 2 ∷ []) ≡ given 0 ∷ given 900 ∷ given 901 ∷ []
-unfolding startTick ofClip inTurn timed keepsRule fits every sumLengths momentOf tickOf
+unfolding startTick ofClip inTurn atRate timed keepsRule fits every sumLengths momentOf tickOf
 sheet-ticks = refl
 
 -- clip 1 in turn 2 starts at tick 3304
 turn-2 : startTick sheet 3 100 2 1 ≡ given 3304
-unfolding startTick ofClip inTurn timed keepsRule fits every sumLengths momentOf tickOf
+unfolding startTick ofClip inTurn atRate timed keepsRule fits every sumLengths momentOf tickOf
 turn-2 = refl
 
 -- a clip's ticks: 900 + 1 + 300 make turn 1's start, 1201
 sheet-clip-ticks : map (clipTicks sheet 3 100 0) (0 ∷ 1 ∷ 2 ∷ []) ≡ given 900 ∷ given 1 ∷ given 300 ∷ []
-unfolding clipTicks ticksOf nextMoment ofClip inTurn timed keepsRule fits every sumLengths momentOf tickOf
+unfolding clipTicks ticksOf nextMoment ofClip inTurn atRate timed keepsRule fits every sumLengths momentOf tickOf
 sheet-clip-ticks = refl
 
 turn-1 : startTick sheet 3 100 1 0 ≡ given 1201
-unfolding startTick ofClip inTurn timed keepsRule fits every sumLengths momentOf tickOf
+unfolding startTick ofClip inTurn atRate timed keepsRule fits every sumLengths momentOf tickOf
 turn-1 = refl
 
 -- tempting and wrong: lengths already cut to ticks, 900 + 0 + 300, make 1200
 tempting : map (λ ns. tickOf ns 100) (9009000000 ∷ 4000000 ∷ 3003000000 ∷ []) ≡ 900 ∷ 0 ∷ 300 ∷ []
 unfolding tickOf
 tempting = refl
-
--- the sheet's own pass: rows 0, 1, 2, then done
-pass-opens : starts sheet 3 100 0 ≡ given (cursor 3 100 0 12016000000 0 0)
-unfolding starts inTurn timed keepsRule fits every sumLengths
-pass-opens = refl
-
-pass-rows : map (next sheet) (cursor 3 100 0 12016000000 0 0 ∷ cursor 3 100 0 12016000000 1 9009000000 ∷ cursor 3 100 0 12016000000 2 9013000000 ∷ cursor 3 100 0 12016000000 3 12016000000 ∷ [])
-    ≡ given (clip (row 0 0 9009000000 0) (cursor 3 100 0 12016000000 1 9009000000))
-    ∷ given (clip (row 1 9009000000 4000000 900) (cursor 3 100 0 12016000000 2 9013000000))
-    ∷ given (clip (row 2 9013000000 3003000000 901) (cursor 3 100 0 12016000000 3 12016000000))
-    ∷ given done ∷ []
-unfolding next inLimits tickOf
-pass-rows = refl
 
 -- ---- 9: a count that doesn't fit, a length of 10^18, words and counts of 2^64 - 1
 too-many : map (total sheet) (4 ∷ (2 ^ 64 - 1) ∷ []) ≡ refused brokenTable 0 ∷ refused brokenTable 0 ∷ []
@@ -83,12 +69,12 @@ totals = refl
 
 -- ---- 12: rates 0, 1, 90,000 and 90,001
 rates : map (λ rate. startTick sheet 3 rate 0 1) (0 ∷ 1 ∷ 90000 ∷ 90001 ∷ []) ≡ refused badRate 0 ∷ given 9 ∷ given 810810 ∷ refused badRate 0 ∷ []
-unfolding startTick ofClip inTurn timed keepsRule fits every sumLengths momentOf tickOf
+unfolding startTick ofClip inTurn atRate timed keepsRule fits every sumLengths momentOf tickOf
 rates = refl
 
 -- ---- 13: turns 999,999 and 1,000,000
 turns : map (λ turn. startTick sheet 3 100 turn 0) (999999 ∷ 1000000 ∷ []) ≡ given 1201598798 ∷ refused turnTooLate 0 ∷ []
-unfolding startTick ofClip inTurn timed keepsRule fits every sumLengths momentOf tickOf
+unfolding startTick ofClip inTurn atRate timed keepsRule fits every sumLengths momentOf tickOf
 turns = refl
 
 -- ---- 14: the clip after the last
@@ -97,16 +83,16 @@ unfolding startNs ofClip timed keepsRule fits every sumLengths
 start-ns-past = refl
 
 start-tick-past : startTick sheet 3 90000 999999 3 ≡ refused noSuchClip 0
-unfolding startTick ofClip inTurn timed keepsRule fits every sumLengths momentOf tickOf
+unfolding startTick ofClip inTurn atRate timed keepsRule fits every sumLengths momentOf tickOf
 start-tick-past = refl
 
 -- the last clip of the last turn ends where turn 1,000,000 would start
 last-clip-ticks : map (clipTicks sheet 3 100 999999) (2 ∷ 3 ∷ []) ≡ given 301 ∷ refused noSuchClip 0 ∷ []
-unfolding clipTicks ticksOf nextMoment ofClip inTurn timed keepsRule fits every sumLengths momentOf tickOf
+unfolding clipTicks ticksOf nextMoment ofClip inTurn atRate timed keepsRule fits every sumLengths momentOf tickOf
 last-clip-ticks = refl
 
 -- ---- 9, 11, 12, 13, 14 in that order
 in-order : startTick sheet 4 0 1000000 9 ∷ startTick (clipOf (10 ^ 16)) 1 0 1000000 9 ∷ startTick sheet 3 0 1000000 9 ∷ startTick sheet 3 1 1000000 9 ∷ startTick sheet 3 1 0 9 ∷ []
     ≡ refused brokenTable 0 ∷ refused totalTooLong 0 ∷ refused badRate 0 ∷ refused turnTooLate 0 ∷ refused noSuchClip 0 ∷ []
-unfolding startTick ofClip inTurn timed keepsRule fits every sumLengths momentOf tickOf
+unfolding startTick ofClip inTurn atRate timed keepsRule fits every sumLengths momentOf tickOf
 in-order = refl

@@ -2,9 +2,9 @@
 pub mod Clock
 -- what each call answers
 pub mod Calls
--- all starts of a turn in one pass
-pub mod Starts
 -- what the code's answers say in these words
 pub mod Answers
 -- 01's worked example, both sides of each limit
 pub mod Examples
+-- what inner contracts cite, and no rule
+pub mod Inside

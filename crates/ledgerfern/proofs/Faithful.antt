@@ -2,47 +2,37 @@
 -- Assumes nothing.
 use mathlib.Core.Path.{_≡_, refl, ap}
 use mathlib.Core.Bool.{Bool}
-use mathlib.Core.List.{List, [], _∷_}
-use Prim.Native.Nat.{ℕ, zero, suc}
-use lib.ListN.{getD}
+use Prim.Native.Nat.{ℕ, zero, suc, _<_}
+use native.Mathlib.Omega.{arith}
 use Rattle.text.proofs.Only.{Only, only-by}
-use Rattle.tables.specs.Refusal.{Refusal, textTooLong, notUtf8, noHeader, isMaster, leftOutTag, tooManyDigits, clipTableShort, tagTableShort, brokenTable, outputShort, totalTooLong, badRate, turnTooLate, noSuchClip, windowTooFar, numberOf, Answer, refused, given}
+use Rattle.tables.specs.Refusal.{Refusal, numberOf, Answer, refused, given}
+use Rattle.tables.proofs.Refusals.{byNumber, by-number, number-above}
 use Rattle.assembly.specs.Assembly.{Head}
 use Rattle.media.specs.Calls.{Read, read}
+use Rattle.playing.specs.Playing.{Pair, pair, Playing, playing}
 use Rattle.window.specs.Window.{Window, none, range}
 use Rattle.ledgerfern.specs.declared.Verdict as verdictᵈ
 use Rattle.ledgerfern.specs.declared.Read as readᵈ
 use Rattle.ledgerfern.specs.declared.Value as valueᵈ
+use Rattle.ledgerfern.specs.declared.On as onᵈ
+use Rattle.ledgerfern.specs.declared.Playing as playingᵈ
+use Rattle.ledgerfern.specs.declared.Starts as startsᵈ
 use Rattle.ledgerfern.specs.declared.Window as windowᵈ
-use Rattle.ledgerfern.specs.Numbers.{verdictNumbers, valueNumbers, windowNumbers, readNumbers}
+use Rattle.ledgerfern.specs.Numbers.{verdictNumbers, valueNumbers, onNumbers, playingNumbers, startsNumbers, windowNumbers, readNumbers}
 use Rattle.ledgerfern.specs.Heads.{markFrom, headFrom}
 use Rattle.ledgerfern.proofs.HeadNumbers.{mark-in, numbers-in}
 
--- 01's rows in order
-abbrev rows : List Refusal
-rows = textTooLong ∷ notUtf8 ∷ noHeader ∷ isMaster ∷ leftOutTag ∷ tooManyDigits ∷ clipTableShort ∷ tagTableShort ∷ brokenTable ∷ outputShort ∷ totalTooLong ∷ badRate ∷ turnTooLate ∷ noSuchClip ∷ windowTooFar ∷ []
-
--- the answer of a number: 0 gives what is given, and each other one is its row
+-- the answer of a number: 0 gives what is given, and each other one is its refusal
 abbrev answerFrom : {A : Type 0} → ℕ → ℕ → A → Answer A
 answerFrom zero p a = given a
-answerFrom (suc n) p a = refused (getD rows n windowTooFar) p
+answerFrom (suc n) p a = refused (byNumber (suc n)) p
 
 row-back : {A : Type 0} (r : Refusal) (p : ℕ) (a : A) → answerFrom (numberOf r) p a ≡ refused r p
-row-back textTooLong p a = refl
-row-back notUtf8 p a = refl
-row-back noHeader p a = refl
-row-back isMaster p a = refl
-row-back leftOutTag p a = refl
-row-back tooManyDigits p a = refl
-row-back clipTableShort p a = refl
-row-back tagTableShort p a = refl
-row-back brokenTable p a = refl
-row-back outputShort p a = refl
-row-back totalTooLong p a = refl
-row-back badRate p a = refl
-row-back turnTooLate p a = refl
-row-back noSuchClip p a = refl
-row-back windowTooFar p a = refl
+row-back r p a = go (numberOf r) (number-above r) (by-number r)
+  where
+    go : (n : ℕ) → 0 < n → byNumber n ≡ r → answerFrom n p a ≡ refused r p
+    go zero h e = absurd (omega arith)
+    go (suc n) h e = ap (λ (q : Refusal). refused q p) e
 
 -- ---- each answer's numbers
 abbrev verdictBack : verdictᵈ.Verdict → Answer Bool
@@ -62,6 +52,36 @@ pub value-faithful : Only valueNumbers
 value-faithful = only-by valueNumbers valueBack go
   where
     go : (a : Answer ℕ) → valueBack (valueNumbers a) ≡ a
+    go (refused r p) = row-back r p _
+    go (given n) = refl
+
+abbrev onBack : onᵈ.On → Answer Pair
+onBack o = answerFrom (o .number) (o .place) (pair (o .turn) (o .clip))
+
+pub on-faithful : Only onNumbers
+on-faithful = only-by onNumbers onBack go
+  where
+    go : (a : Answer Pair) → onBack (onNumbers a) ≡ a
+    go (refused r p) = row-back r p _
+    go (given (pair turn clip)) = refl
+
+abbrev playingBack : playingᵈ.Playing → Answer Playing
+playingBack o = answerFrom (o .number) (o .place) (playing (o .turn) (o .clip) (o .since) (o .left))
+
+pub playing-faithful : Only playingNumbers
+playing-faithful = only-by playingNumbers playingBack go
+  where
+    go : (a : Answer Playing) → playingBack (playingNumbers a) ≡ a
+    go (refused r p) = row-back r p _
+    go (given (playing turn clip since left)) = refl
+
+abbrev startsBack : startsᵈ.Starts → Answer ℕ
+startsBack v = answerFrom (v .number) (v .place) (v .clips)
+
+pub starts-faithful : Only startsNumbers
+starts-faithful = only-by startsNumbers startsBack go
+  where
+    go : (a : Answer ℕ) → startsBack (startsNumbers a) ≡ a
     go (refused r p) = row-back r p _
     go (given n) = refl
 

@@ -4,14 +4,18 @@ use mathlib.Core.Bool.{Bool}
 use mathlib.Core.List.{List}
 use Prim.Native.Nat.{ℕ}
 use Rattle.tables.specs.Refusal.{Answer}
+use Rattle.playing.specs.Playing.{Pair, Playing}
 use Rattle.window.specs.Window.{Window}
 use Rattle.ledgerfern.specs.declared.Verdict as verdictᵈ
 use Rattle.ledgerfern.specs.declared.Read as readᵈ
 use Rattle.ledgerfern.specs.declared.Value as valueᵈ
+use Rattle.ledgerfern.specs.declared.On as onᵈ
+use Rattle.ledgerfern.specs.declared.Playing as playingᵈ
+use Rattle.ledgerfern.specs.declared.Starts as startsᵈ
 use Rattle.ledgerfern.specs.declared.Window as windowᵈ
 use Rattle.ledgerfern.specs.declared.Head as headᵈ
 use Rattle.ledgerfern.specs.declared.Written as writtenᵈ
-use Rattle.ledgerfern.specs.Numbers.{verdictNumbers, valueNumbers, windowNumbers, ReadAs}
+use Rattle.ledgerfern.specs.Numbers.{verdictNumbers, valueNumbers, onNumbers, playingNumbers, windowNumbers, ReadAs, StartsAs}
 use Rattle.ledgerfern.specs.Write.{WriteAs}
 
 -- of a promise `r ≡ x`
@@ -22,9 +26,24 @@ one x a b p q = p ∙ sym q
 pub verdict-once : (x : Answer Bool) (a b : verdictᵈ.Verdict) → a ≡ verdictNumbers x → b ≡ verdictNumbers x → a ≡ b
 verdict-once x = one (verdictNumbers x)
 
--- `ledgerfern_total`, `ledgerfern_start_tick`, `ledgerfern_clip_ticks`
+-- `ledgerfern_total`, `ledgerfern_start_ns`, `ledgerfern_start_tick`, `ledgerfern_clip_ticks`
 pub value-once : (x : Answer ℕ) (a b : valueᵈ.Value) → a ≡ valueNumbers x → b ≡ valueNumbers x → a ≡ b
 value-once x = one (valueNumbers x)
+
+-- `ledgerfern_clip_at`, `ledgerfern_playing_at`
+pub on-once : (x : Answer Pair) (a b : onᵈ.On) → a ≡ onNumbers x → b ≡ onNumbers x → a ≡ b
+on-once x = one (onNumbers x)
+
+pub playing-once : (x : Answer Playing) (a b : playingᵈ.Playing) → a ≡ playingNumbers x → b ≡ playingNumbers x → a ≡ b
+playing-once x = one (playingNumbers x)
+
+-- `ledgerfern_starts`, at the same words and numbers, and the same table
+module _ {t : List ℕ} {n rate turn : ℕ} {out₀ out out′ : List ℕ} {r r′ : startsᵈ.Starts} (p : StartsAs t n rate turn out₀ out r) (q : StartsAs t n rate turn out₀ out′ r′) where
+  pub starts-once : r ≡ r′
+  starts-once = one _ r r′ (p .answered) (q .answered)
+
+  pub table-once : out ≡ out′
+  table-once = one _ out out′ (p .out-after) (q .out-after)
 
 -- `ledgerfern_window`
 pub window-once : (x : Answer Window) (a b : windowᵈ.Window) → a ≡ windowNumbers x → b ≡ windowNumbers x → a ≡ b

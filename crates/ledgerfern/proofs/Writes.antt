@@ -6,10 +6,9 @@ use mathlib.Core.List.{List, []}
 use mathlib.Core.Option.{none, some}
 use lib.Dec.{leb}
 use lib.ListN.{length}
-use Rattle.tables.specs.Refusal.{Answer, refused, orRefuse, textTooLong, brokenTable}
+use Rattle.tables.specs.Refusal.{Answer, refused, laid, orRefuse, textTooLong, brokenTable}
 use Rattle.verdict.specs.Calls.{textLimit}
 use Rattle.assembly.specs.Assembly.{Head}
-use Rattle.media.specs.Calls.{laid}
 use Rattle.playlist.specs.Calls.{writtenText, writeTo}
 use Rattle.ledgerfern.specs.declared.Head as headᵈ
 use Rattle.ledgerfern.specs.declared.Written as writtenᵈ

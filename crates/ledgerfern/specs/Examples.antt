@@ -6,11 +6,12 @@ use mathlib.Core.List.{List, [], _∷_, map}
 use mathlib.Core.Option.{none, some}
 use Rattle.text.specs.Nom.{span}
 use Rattle.text.specs.BasicTags.{event, vod, other}
-use Rattle.tables.specs.Refusal.{refused, given, leftOutTag, noSuchClip}
+use Rattle.tables.specs.Refusal.{refused, given, leftOutTag, outputShort, noSuchClip, nothingPlays, tickTooLate}
 use Rattle.assembly.specs.Assembly.{Head, head, emptyHead}
+use Rattle.playing.specs.Playing.{pair, playing}
 use Rattle.window.specs.Window as window
 use Rattle.ledgerfern.specs.declared.Head as headᵈ
-use Rattle.ledgerfern.specs.Numbers.{verdictNumbers, valueNumbers, windowNumbers, typeNumber, headNumbers, readNumbers}
+use Rattle.ledgerfern.specs.Numbers.{verdictNumbers, valueNumbers, onNumbers, playingNumbers, startsNumbers, windowNumbers, typeNumber, headNumbers, readNumbers}
 use Rattle.ledgerfern.specs.Heads.{isVersion, isType, isHead, typeFrom, headFrom, headOf}
 
 -- a head of zeros but for its marks
@@ -38,6 +39,18 @@ refused-read = refl
 
 refused-value : valueNumbers (refused noSuchClip 0) ≡ record { number = 14; place = 0; value = 0 }
 refused-value = refl
+
+-- what is on: turn, then clip, then the ticks since and left
+on-air : onNumbers (given (pair 2 1)) ∷ onNumbers (refused nothingPlays 0) ∷ []
+    ≡ record { number = 0; place = 0; turn = 2; clip = 1 } ∷ record { number = 17; place = 0; turn = 0; clip = 0 } ∷ []
+on-air = refl
+
+played : playingNumbers (given (playing 4 3 2 1)) ∷ playingNumbers (refused tickTooLate 0) ∷ []
+    ≡ record { number = 0; place = 0; turn = 4; clip = 3; since = 2; left = 1 } ∷ record { number = 18; place = 0; turn = 0; clip = 0; since = 0; left = 0 } ∷ []
+played = refl
+
+starts : startsNumbers (given 3) ∷ startsNumbers (refused outputShort 0) ∷ [] ≡ record { number = 0; place = 0; clips = 3 } ∷ record { number = 10; place = 0; clips = 0 } ∷ []
+starts = refl
 
 -- a media and a master playlist
 verdicts : map (λ m. verdictNumbers (given m)) (false ∷ true ∷ []) ≡ record { number = 0; place = 0; master = 0 } ∷ record { number = 0; place = 0; master = 1 } ∷ []

@@ -8,15 +8,20 @@ use mathlib.Core.Option.{Option, none, some}
 use lib.ListN.{length}
 use Rattle.text.specs.Nom.{span}
 use Rattle.text.specs.BasicTags.{PlaylistType, event, vod, other}
-use Rattle.tables.specs.Refusal.{Answer, refused, given, answerNumber, answerPlace}
+use Rattle.tables.specs.Refusal.{Answer, refused, given, laid, answerNumber, answerPlace}
 use Rattle.assembly.specs.Assembly.{Head, head, emptyHead}
 use Rattle.assembly.specs.Words.{clipsWords, tagsWords}
-use Rattle.media.specs.Calls.{Read, read, parseMediaPlaylist, clipsRead, tagsRead, laid}
+use Rattle.media.specs.Calls.{Read, read, parseMediaPlaylist, clipsRead, tagsRead}
+use Rattle.starts.specs.Table.{startRecords, allStarts}
+use Rattle.playing.specs.Playing.{Pair, pair, Playing, playing}
 use Rattle.window.specs.Window as window
 use Rattle.ledgerfern.specs.declared.Verdict as verdictᵈ
 use Rattle.ledgerfern.specs.declared.Head as headᵈ
 use Rattle.ledgerfern.specs.declared.Read as readᵈ
 use Rattle.ledgerfern.specs.declared.Value as valueᵈ
+use Rattle.ledgerfern.specs.declared.On as onᵈ
+use Rattle.ledgerfern.specs.declared.Playing as playingᵈ
+use Rattle.ledgerfern.specs.declared.Starts as startsᵈ
 use Rattle.ledgerfern.specs.declared.Window as windowᵈ
 use Rattle.ledgerfern.specs.declared.Written as writtenᵈ
 
@@ -40,6 +45,45 @@ valueNumbers a = record { number = answerNumber a; place = answerPlace a; value 
 -- how many bytes were written
 abbrev pub writtenNumbers : Answer ℕ → writtenᵈ.Written
 writtenNumbers a = record { number = answerNumber a; place = answerPlace a; length = orZero (λ n. n) a }
+
+-- "turn, clip"
+abbrev pub turnGiven : Pair → ℕ
+turnGiven (pair turn clip) = turn
+
+abbrev pub clipGiven : Pair → ℕ
+clipGiven (pair turn clip) = clip
+
+abbrev pub onNumbers : Answer Pair → onᵈ.On
+onNumbers a = record { number = answerNumber a; place = answerPlace a; turn = orZero turnGiven a; clip = orZero clipGiven a }
+
+-- "turn, clip, ticks since its start, ticks left to the next start"
+abbrev pub pairOf : Playing → Pair
+pairOf (playing turn clip since left) = pair turn clip
+
+abbrev pub sinceGiven : Playing → ℕ
+sinceGiven (playing turn clip since left) = since
+
+abbrev pub leftGiven : Playing → ℕ
+leftGiven (playing turn clip since left) = left
+
+abbrev pub playingNumbers : Answer Playing → playingᵈ.Playing
+playingNumbers a = record {
+  number = answerNumber a;
+  place = answerPlace a;
+  turn = orZero (λ p. turnGiven (pairOf p)) a;
+  clip = orZero (λ p. clipGiven (pairOf p)) a;
+  since = orZero sinceGiven a;
+  left = orZero leftGiven a;
+}
+
+-- how many clips' starts were laid
+abbrev pub startsNumbers : Answer ℕ → startsᵈ.Starts
+startsNumbers a = record { number = answerNumber a; place = answerPlace a; clips = orZero (λ n. n) a }
+
+-- and all that the call says: its numbers, and each word of the table after it
+pub record StartsAs (t : List ℕ) (n rate turn : ℕ) (out₀ out : List ℕ) (r : startsᵈ.Starts) : Type 0 where
+  pub answered : r ≡ startsNumbers (allStarts t n rate turn out₀)
+  pub out-after : out ≡ laid (allStarts t n rate turn out₀) (startRecords t n rate turn n) out₀
 
 -- "1 or 0 for a range, start, end"; "without a range, the answer none, start and end 0"
 abbrev pub rangePresent : window.Window → ℕ

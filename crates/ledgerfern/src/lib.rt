@@ -3,11 +3,13 @@
 // A slice is a pointer and a length. Nothing is kept after a call, and nothing allocated.
 use crate::heads::HeadRes;
 use clock::turns;
+use starts::table;
 ghost use mathlib.Core.Path.{_≡_};
 ghost use Rattle.verdict.specs.Calls.{isMasterPlaylist};
 ghost use Rattle.clock.specs.Calls as clock;
+ghost use Rattle.playing.specs.Playing as playing;
 ghost use Rattle.window.specs.Window as window;
-ghost use Rattle.ledgerfern.specs.Numbers.{verdictNumbers, valueNumbers, windowNumbers, ReadAs};
+ghost use Rattle.ledgerfern.specs.Numbers.{verdictNumbers, valueNumbers, windowNumbers, onNumbers, playingNumbers, ReadAs, StartsAs};
 ghost use Rattle.ledgerfern.specs.Write.{WriteAs};
 
 pub mod numbers; // the numbers of an answer
@@ -61,6 +63,34 @@ pub struct Value {
     pub number: u64,
     pub place: u64,
     pub value: u64,
+}
+
+// A clip, in a turn.
+#[repr(C)]
+pub struct On {
+    pub number: u64,
+    pub place: u64,
+    pub turn: u64,
+    pub clip: u64,
+}
+
+// A clip in a turn, how many ticks ago it started, and how many are left until the next start.
+#[repr(C)]
+pub struct Playing {
+    pub number: u64,
+    pub place: u64,
+    pub turn: u64,
+    pub clip: u64,
+    pub since: u64,
+    pub left: u64,
+}
+
+// How many clips' starts were stored.
+#[repr(C)]
+pub struct Starts {
+    pub number: u64,
+    pub place: u64,
+    pub clips: u64,
 }
 
 // The first byte of a clip's range and the place after its last one; without a range, zeros.
@@ -120,6 +150,14 @@ pub extern "C" fn ledgerfern_total(clip_count: usize, clips: &[u64]) -> Value
     numbers::of_value(clock::total(clips, clip_count))
 }
 
+// The start of a clip within its turn, in ns.
+#[no_mangle]
+pub extern "C" fn ledgerfern_start_ns(clip_count: usize, clips: &[u64], clip: usize) -> Value
+    ensures { λ r. ⌜ r ≡ valueNumbers (clock.startNs (now (clips .entry)) «clip_count» clip) ⌝ }
+{
+    numbers::of_value(clock::start_ns(clips, clip_count, clip))
+}
+
 // The tick at which a clip starts in a turn.
 #[no_mangle]
 pub extern "C" fn ledgerfern_start_tick(
@@ -146,6 +184,41 @@ pub extern "C" fn ledgerfern_clip_ticks(
     ensures { λ r. ⌜ r ≡ valueNumbers (clock.clipTicks (now (clips .entry)) «clip_count» rate turn clip) ⌝ }
 {
     numbers::of_value(turns::clip_ticks(clips, clip_count, rate, turn, clip))
+}
+
+// All starts of a turn into the lent table, two words a clip: in ns within the turn, and in ticks. A refused call leaves it as it was.
+#[no_mangle]
+pub extern "C" fn ledgerfern_starts(
+    clip_count: usize,
+    clips: &[u64],
+    rate: u64,
+    turn: u64,
+    out: &mut [u64],
+) -> Starts
+    ensures { λ r. ⌜ StartsAs (now (clips .entry)) «clip_count» rate turn (now (out .entry)) (now (out .exit)) r ⌝ }
+{
+    numbers::of_starts(table::all_starts(clips, clip_count, rate, turn, out))
+}
+
+// Which clip is on at a tick, and in which turn.
+#[no_mangle]
+pub extern "C" fn ledgerfern_clip_at(clip_count: usize, clips: &[u64], rate: u64, tick: u64) -> On
+    ensures { λ r. ⌜ r ≡ onNumbers (playing.clipAt (now (clips .entry)) «clip_count» rate tick) ⌝ }
+{
+    numbers::of_on(playing::clip_at(clips, clip_count, rate, tick))
+}
+
+// The same, with the ticks since its start and those left until the next.
+#[no_mangle]
+pub extern "C" fn ledgerfern_playing_at(
+    clip_count: usize,
+    clips: &[u64],
+    rate: u64,
+    tick: u64,
+) -> Playing
+    ensures { λ r. ⌜ r ≡ playingNumbers (playing.playingAt (now (clips .entry)) «clip_count» rate tick) ⌝ }
+{
+    numbers::of_playing(playing::playing_at(clips, clip_count, rate, tick))
 }
 
 // The byte window of a clip.

@@ -1,6 +1,9 @@
 // An answer's numbers: number and place, then its values, all zero where it is refused.
 use crate::Head;
+use crate::On;
+use crate::Playing;
 use crate::Read;
+use crate::Starts;
 use crate::Value;
 use crate::Verdict;
 use crate::Window;
@@ -10,7 +13,9 @@ use assembly::head::HeadType;
 use assembly::head::Version;
 use leaves::basic_tags::PlaylistType;
 use media::ParseAnswer;
+use playing::Played;
 use playlist::WriteAnswer;
+use starts::table::Laid;
 use tables::Refusal;
 use verdict::MasterAnswer;
 ghost use mathlib.Core.Path.{_≡_};
@@ -18,6 +23,8 @@ ghost use Rattle.verdict.specs.Answers.{masterAnswer};
 ghost use Rattle.assembly.specs.Answers.{versionOf, headTypeOf, headSeen};
 ghost use Rattle.media.specs.Answers.{parseAnswer};
 ghost use Rattle.clock.specs.Answers as clock;
+ghost use Rattle.starts.specs.Answers.{laidOf};
+ghost use Rattle.playing.specs.Answers.{onOf, playedOf};
 ghost use Rattle.window.specs.Answers as window;
 ghost use Rattle.playlist.specs.Answers.{writeAnswer};
 ghost use Rattle.ledgerfern.specs.Write.{writeNone};
@@ -60,6 +67,67 @@ pub fn of_value(given: clock::Answer) -> Value
             number: 0,
             place: 0,
             value,
+        },
+    }
+}
+
+// How many clips' starts were laid; its refusals have no place.
+pub fn of_starts(given: Laid) -> Starts
+    ensures { λ r. ⌜ r ≡ rule.startsNumbers (laidOf given) ⌝ }
+{
+    match given {
+        Laid::Refused(r) => Starts {
+            number: r.number(),
+            place: 0,
+            clips: 0,
+        },
+        Laid::Given(clips) => Starts {
+            number: 0,
+            place: 0,
+            clips: clips as u64,
+        },
+    }
+}
+
+// What is on at a tick, whose refusals have no place.
+pub fn of_on(given: playing::On) -> On
+    ensures { λ r. ⌜ r ≡ rule.onNumbers (onOf given) ⌝ }
+{
+    match given {
+        playing::On::Refused(r) => On {
+            number: r.number(),
+            place: 0,
+            turn: 0,
+            clip: 0,
+        },
+        playing::On::Given(p) => On {
+            number: 0,
+            place: 0,
+            turn: p.turn,
+            clip: p.clip as u64,
+        },
+    }
+}
+
+pub fn of_playing(given: Played) -> Playing
+    ensures { λ r. ⌜ r ≡ rule.playingNumbers (playedOf given) ⌝ }
+{
+    match given {
+        Played::Refused(r) => Playing {
+            number: r.number(),
+            place: 0,
+            turn: 0,
+            clip: 0,
+            since: 0,
+            left: 0,
+        },
+        Played::Given(p) => Playing {
+            number: 0,
+            place: 0,
+            turn: p.turn,
+            clip: p.clip as u64,
+            since: p.since,
+            left: p.left,
         },
     }
 }

@@ -1,17 +1,17 @@
 -- The public call `parse_media_playlist`: "Reader: 1, 2, 3, 4, then 5 or 6 whichever the reading meets first, 7, 8." Assumes nothing.
 use Prim.Native.Nat.{ℕ, _*_}
 use mathlib.Core.Path.{_≡_}
-use mathlib.Core.List.{List, [], _∷_, _++_}
+use mathlib.Core.List.{List, [], _∷_}
 use mathlib.Core.Option.{Option, none, some}
 use lib.Dec.{leb}
-use lib.ListN.{length, take, drop}
+use lib.ListN.{length, take}
 use Rattle.text.specs.Nom.{Parser, runEnd, isMultispace}
 use Rattle.text.specs.Many.{many0, items, stop}
 use Rattle.text.specs.BasicTags.{ExtTag}
 use Rattle.lengths.specs.Duration.{Extinf, ns, extinf}
 use Rattle.lengths.specs.Duration as lengths
 use Rattle.tables.specs.Layout.{clipWords, tagWords}
-use Rattle.tables.specs.Refusal.{Refusal, Answer, refused, given, orRefuse, isMaster, leftOutTag, tooManyDigits, clipTableShort, tagTableShort}
+use Rattle.tables.specs.Refusal.{Refusal, Answer, refused, given, laid, orRefuse, isMaster, leftOutTag, tooManyDigits, clipTableShort, tagTableShort}
 use Rattle.verdict.specs.Verdict.{Verdict, master, media}
 use Rattle.verdict.specs.Calls.{admitted, andThen, header, verdictOf}
 use Rattle.tags.specs.Tags.{timedOf, Tag, ofHead, ofClip, unknown, comment, uri, leftOut, Taken, took}
@@ -103,11 +103,6 @@ clipsRead text = clipsOf begin (stepsOf text)
 
 unfoldable pub tagsRead : List ℕ → List ExtTag
 tagsRead text = keptOf (stepsOf text)
-
--- a lent table afterwards: "After a read the words past the last record are unchanged"; "No lent memory changes" where the call is refused
-abbrev pub laid : {A : Type 0} → Answer A → List ℕ → List ℕ → List ℕ
-laid (refused r p) ws entry = entry
-laid (given a) ws entry = ws ++ drop (length ws) entry
 
 -- all that a call says which gives so many clips and tags: its answer, and each word of both tables after it
 pub record ReadingAs {R : Type 0} (view : R → Answer Read) (answer : Answer Read) (clipsGiven : List Clip) (tagsGiven : List ExtTag) (clips₀ tags₀ clips tags : List ℕ) (r : R) : Type 0 where

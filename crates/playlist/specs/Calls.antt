@@ -4,10 +4,9 @@ use mathlib.Core.Path.{_≡_}
 use mathlib.Core.List.{List}
 use lib.Dec.{leb}
 use lib.ListN.{length}
-use Rattle.tables.specs.Refusal.{Answer, given, orRefuse, textTooLong, brokenTable, outputShort}
+use Rattle.tables.specs.Refusal.{Answer, given, laid, orRefuse, textTooLong, brokenTable, outputShort}
 use Rattle.verdict.specs.Calls.{textLimit}
 use Rattle.assembly.specs.Assembly.{Head}
-use Rattle.media.specs.Calls.{laid}
 use Rattle.records.specs.Records.{clipsAt, tagsAt}
 use Rattle.rule9.specs.Rule9.{keepsRule}
 use Rattle.playlist.specs.Lines.{playlistText}

@@ -196,10 +196,10 @@ pub fn writer(
     write_text(next, from, to, &text[0..length], clips, tags, out)
 }
 
-// What follows the table in a record of ops 4 to 7, and the input after it. What an op does not have is 0.
+// What follows the table in a record of a call over clips, and the input after it: a rate, a turn or a tick, a clip. What an op does not have is 0.
 struct Moment {
     rate: u64,
-    turn: u64,
+    at: u64,
     clip: usize,
     input: Input,
 }
@@ -214,21 +214,28 @@ fn take_if(there: bool, input: Input, from: &mut [u8; input::ROOM]) -> Taken {
     }
 }
 
-fn has_turn(op: u64) -> bool {
+fn has_rate(op: u64) -> bool {
     match op {
-        5 | 7 => true,
+        5 | 7 | 8 | 13 => true,
         _ => false,
     }
 }
 
+fn has_clip(op: u64) -> bool {
+    match op {
+        4 | 8 | 13 => false,
+        _ => true,
+    }
+}
+
 fn take_moment(op: u64, input: Input, from: &mut [u8; input::ROOM]) -> Moment {
-    let rate = take_if(has_turn(op), input, from);
-    let turn = take_if(has_turn(op), rate.rest, from);
-    let clip = take_if(op != 4, turn.rest, from);
+    let rate = take_if(has_rate(op), input, from);
+    let at = take_if(has_rate(op), rate.rest, from);
+    let clip = take_if(has_clip(op), at.rest, from);
     let input = clip.rest;
     Moment {
         rate: rate.value,
-        turn: turn.value,
+        at: at.value,
         clip: clip.value as usize,
         input,
     }
@@ -244,8 +251,17 @@ fn call_and_print(
 ) -> Waits {
     let given = match op {
         4 => ledgerfern::ledgerfern_total(clips, words),
-        5 => ledgerfern::ledgerfern_start_tick(clips, words, m.rate, m.turn, m.clip),
-        7 => ledgerfern::ledgerfern_clip_ticks(clips, words, m.rate, m.turn, m.clip),
+        5 => ledgerfern::ledgerfern_start_tick(clips, words, m.rate, m.at, m.clip),
+        7 => ledgerfern::ledgerfern_clip_ticks(clips, words, m.rate, m.at, m.clip),
+        28 => ledgerfern::ledgerfern_start_ns(clips, words, m.clip),
+        8 => {
+            let given = ledgerfern::ledgerfern_clip_at(clips, words, m.rate, m.at);
+            return lines::on(to, waits, given);
+        }
+        13 => {
+            let given = ledgerfern::ledgerfern_playing_at(clips, words, m.rate, m.at);
+            return lines::playing(to, waits, given);
+        }
         _ => {
             let given = ledgerfern::ledgerfern_window(clips, words, m.clip);
             return lines::window(to, waits, given);
@@ -254,7 +270,7 @@ fn call_and_print(
     lines::value(to, waits, op, given)
 }
 
-// Ops 4 to 7, the calls over a table of clips.
+// Ops 4 to 8, 13 and 28, the calls over a table of clips.
 pub fn over_clips(
     op: u64,
     s: State,
@@ -272,5 +288,50 @@ pub fn over_clips(
         return State { input, waits };
     }
     let waits = call_and_print(op, to, waits, table.entries, &clips[0..words], m);
+    State { input, waits }
+}
+
+// The table of starts is printed as the call leaves it.
+fn starts_and_print(
+    to: &mut [u8; output::ROOM],
+    waits: Waits,
+    clips: usize,
+    words: &[u64],
+    rate: u64,
+    turn: u64,
+    out: &mut [u64],
+) -> Waits {
+    let given = ledgerfern::ledgerfern_starts(clips, words, rate, turn, out);
+    lines::starts(to, waits, given, out)
+}
+
+pub fn starts(
+    s: State,
+    from: &mut [u8; input::ROOM],
+    to: &mut [u8; output::ROOM],
+    clips: &mut [u64],
+    out: &mut [u64],
+) -> State {
+    let waits = s.waits;
+    let table = take_table(s.input, from, clips);
+    let clip_end = table.words;
+    let rate = input::number(table.input, STDIN_FILENO, from);
+    let turn = input::number(rate.rest, STDIN_FILENO, from);
+    let room = input::numbers(turn.rest, STDIN_FILENO, from, out);
+    let room_end = room.count;
+    let input = room.rest;
+    let stop = input.stop;
+    if stop.happened() {
+        return State { input, waits };
+    }
+    let waits = starts_and_print(
+        to,
+        waits,
+        table.entries,
+        &clips[0..clip_end],
+        rate.value,
+        turn.value,
+        &mut out[0..room_end],
+    );
     State { input, waits }
 }

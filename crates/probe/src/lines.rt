@@ -1,7 +1,10 @@
 // What is printed. A line begins with op, number and place; a refused call has zeros for all that follows but the lent memory.
 use input::Stop;
 use ledgerfern::Head;
+use ledgerfern::On;
+use ledgerfern::Playing;
 use ledgerfern::Read;
+use ledgerfern::Starts;
 use ledgerfern::Value;
 use ledgerfern::Verdict;
 use ledgerfern::Window;
@@ -69,6 +72,30 @@ pub fn verdict(to: &mut [u8; ROOM], waits: Waits, r: Verdict) -> Waits {
 
 pub fn value(to: &mut [u8; ROOM], waits: Waits, op: u64, r: Value) -> Waits {
     let waits = answer(to, waits, op, r.number, r.place, &[r.value]);
+    end_line(to, waits)
+}
+
+pub fn on(to: &mut [u8; ROOM], waits: Waits, r: On) -> Waits {
+    let waits = answer(to, waits, 8, r.number, r.place, &[r.turn, r.clip]);
+    end_line(to, waits)
+}
+
+pub fn playing(to: &mut [u8; ROOM], waits: Waits, r: Playing) -> Waits {
+    let waits = answer(
+        to,
+        waits,
+        13,
+        r.number,
+        r.place,
+        &[r.turn, r.clip, r.since, r.left],
+    );
+    end_line(to, waits)
+}
+
+// The answer of the call for all starts, and the table as the call left it.
+pub fn starts(to: &mut [u8; ROOM], waits: Waits, r: Starts, out: &[u64]) -> Waits {
+    let waits = answer(to, waits, 14, r.number, r.place, &[r.clips]);
+    let waits = words(to, waits, out);
     end_line(to, waits)
 }
 

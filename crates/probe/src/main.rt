@@ -7,6 +7,10 @@
 //   5 start tick          number of clips, clip words, rate, turn, clip
 //   6 window              number of clips, clip words, clip
 //   7 ticks of a clip     as 5
+//   8 clip at a tick      number of clips, clip words, rate, tick
+//  13 since and left      as 8
+//  14 all starts          number of clips, clip words, rate, turn, words of the table of starts
+//  28 start in ns         number of clips, clip words, clip
 // A number has eight bytes, the lowest first; a text or words are their count, a number, and then so many bytes or numbers.
 use input::Input;
 use input::Stop;
@@ -60,7 +64,8 @@ fn call(
         1 => calls::verdict(s, from, to, text),
         2 => calls::reader(s, from, to, text, clips, tags),
         3 => calls::writer(s, from, to, text, clips, tags, out),
-        4..=7 => calls::over_clips(op, s, from, to, clips),
+        4..=8 | 13 | 28 => calls::over_clips(op, s, from, to, clips),
+        14 => calls::starts(s, from, to, clips, tags),
         _ => return Step::Last(lines::text(to, waits, b"unknown op\n")),
     };
     after_record(next, to)

@@ -6,7 +6,8 @@ use mathlib.Core.Option.{some}
 use native.Mathlib.Omega.{arith}
 use lib.Dec.{leb}
 use lib.ListN.{length, take}
-use Rattle.tables.specs.Refusal.{Refusal, textTooLong, notUtf8, noHeader, isMaster, leftOutTag, tooManyDigits, clipTableShort, tagTableShort, brokenTable, outputShort, totalTooLong, badRate, turnTooLate, noSuchClip, windowTooFar, numberOf, Answer, refused, given, answerNumber, orRefuse}
+use Rattle.tables.specs.Refusal.{outputShort, Answer, refused, given, answerNumber, orRefuse}
+use Rattle.tables.proofs.Refusals.{number-above}
 use Rattle.assembly.specs.Assembly.{Head}
 use Rattle.media.specs.Calls.{Read, read, parseMediaPlaylist, ParsedAs}
 use Rattle.playlist.specs.Calls.{writeTo, WrittenAs}
@@ -23,25 +24,8 @@ use Rattle.roundtrip.specs.ByFace.{FaceCalls, FaceComesBack}
 use Rattle.roundtrip.proofs.Calls.{by-calls, write-answers}
 
 -- ---- number 0 is no refusal's
-no-refusal : (r : Refusal) → numberOf r ≡ 0 → ⊥
-no-refusal textTooLong e = omega arith
-no-refusal notUtf8 e = omega arith
-no-refusal noHeader e = omega arith
-no-refusal isMaster e = omega arith
-no-refusal leftOutTag e = omega arith
-no-refusal tooManyDigits e = omega arith
-no-refusal clipTableShort e = omega arith
-no-refusal tagTableShort e = omega arith
-no-refusal brokenTable e = omega arith
-no-refusal outputShort e = omega arith
-no-refusal totalTooLong e = omega arith
-no-refusal badRate e = omega arith
-no-refusal turnTooLate e = omega arith
-no-refusal noSuchClip e = omega arith
-no-refusal windowTooFar e = omega arith
-
 was-given : {A : Type 0} (x : Answer A) → answerNumber x ≡ 0 → (a : A) × (x ≡ given a)
-was-given (refused r p) e = absurd (no-refusal r e)
+was-given (refused r p) e = absurd (omega (arith, number-above r))
 was-given (given a) e = (a, refl)
 
 -- ---- the numbers of a reading that was accepted

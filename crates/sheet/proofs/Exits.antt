@@ -6,10 +6,10 @@ use mathlib.Core.Bool.{Bool, true, false}
 use mathlib.Core.List.{List, [], _++_}
 use lib.ListN.{length}
 use borrow.Author.Tests.{le-leb, lt-leb}
-use Rattle.tables.specs.Refusal.{Refusal, refused, given, numberOf}
+use Rattle.tables.specs.Refusal.{Refusal, refused, given, laid, numberOf}
 use Rattle.assembly.specs.Assembly.{begin, lastOf, clipCount}
 use Rattle.assembly.specs.Words.{clipsWords}
-use Rattle.media.specs.Calls.{stepsOf, parseMediaPlaylist, clipsRead, laid}
+use Rattle.media.specs.Calls.{stepsOf, parseMediaPlaylist, clipsRead}
 use Rattle.media.specs.declared.Read as readᵈ
 use Rattle.media.specs.Answers.{readSeen}
 use Rattle.media.proofs.ThrownOut.{clips-counted}

@@ -3,7 +3,7 @@ use Prim.Native.Nat.{ℕ, suc, _+_, _-_, _≤_, _<_}
 use mathlib.Core.Path.{_≡_, sym, ap}
 use mathlib.Core.List.{List, _++_, append-nil, append-assoc}
 use native.Mathlib.Omega.{arith}
-use Rattle.clock.specs.Starts.{Cursor, next}
+use Rattle.starts.specs.Starts.{Cursor, next}
 use Rattle.sheet.specs.Inside.Pass.{stepLine, stepAfter, passLines}
 
 -- no step is done

@@ -20,11 +20,11 @@ use Rattle.assembly.proofs.ReadBack.{clip-back}
 use Rattle.records.proofs.Back.{All}
 use Rattle.roundtrip.proofs.Guaranteed.{SoundClipOf}
 use Rattle.clock.specs.Clock.{largestTotal, lengthOf, sumLengths, keepsRule, momentOf, tickOf}
-use Rattle.clock.specs.Calls.{inTurn}
-use Rattle.clock.specs.Starts.{starts}
+use Rattle.clock.specs.Calls.{atRate, inTurn}
+use Rattle.starts.specs.Starts.{starts}
 use Rattle.clock.proofs.Lengths.{lengthPasses}
 use Rattle.clock.proofs.Calls.{InTurn, timed-11}
-use Rattle.clock.proofs.Pass.{cursorAt, rowAt, pass-opens, pass-steps}
+use Rattle.starts.proofs.Pass.{cursorAt, rowAt, pass-opens, pass-steps}
 use Rattle.output.specs.Waiting.{part}
 use Rattle.output.proofs.Laws.{part-there}
 use Rattle.sheet.specs.Sheet.{sheetRate, headerLine, clipLine, totalLine, uriOf, nsOf, clipLines, totalOf, sheetOf}
@@ -142,7 +142,7 @@ module _ (text rest : List ℕ) (all : List Clip) where
         rw (pass-opens words (length all) sheetRate 0 g) (λ i. given (headerLine ++ (p i ++ totalLine (total-sum i))))
 
     too-much : largestTotal < totalOf all → starts words (length all) sheetRate 0 ≡ refused totalTooLong 0
-    unfolding starts inTurn
+    unfolding starts inTurn atRate
     too-much h = timed-11 words (length all) _ (keeps s) (rw total-sum h)
 
     pub words-sheet : wordsSheet text words (length all) ≡ orRefuse (leb (totalOf all) largestTotal) totalTooLong 0 (given (sheetOf text all))

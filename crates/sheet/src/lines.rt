@@ -1,16 +1,16 @@
 // What is printed. Each function takes what waits in the output, and answers what waits after it; `sheet` and `refused` print the whole.
-use clock::starts::Row;
-use clock::starts::Starts;
-use clock::starts::Step;
 use libc::STDOUT_FILENO;
 use output::ROOM;
 use output::Waits;
+use starts::Row;
+use starts::Starts;
+use starts::Step;
 use tables::layout;
 use tables::record;
 ghost use mathlib.Core.Path.{_≡_};
 ghost use Rattle.output.specs.Puts.{Puts, PutsFirst};
-ghost use Rattle.clock.specs.Answers.{cursorOf, rowOf};
-ghost use Rattle.clock.specs.Starts.{next};
+ghost use Rattle.starts.specs.Answers.{cursorOf, rowOf};
+ghost use Rattle.starts.specs.Starts.{next};
 ghost use Rattle.sheet.specs.Sheet as rule;
 ghost use Rattle.sheet.specs.Inside.Pass as inside;
 

@@ -2,10 +2,13 @@
 -- Assumes nothing.
 use mathlib.Core.Path.{_≡_, refl, sym, ap, _∙_}
 use mathlib.Core.Bool.{Bool, true, false}
-use Prim.Native.Nat.{ℕ}
+use mathlib.Core.List.{List, [], _∷_}
+use Prim.Native.Nat.{ℕ, _-_, _<_}
+use native.Mathlib.Omega.{arith}
+use lib.ListN.{getD}
 use Rattle.tables.specs.declared.Refusal as refusalᵈ
 use Rattle.tables.specs.declared.Refusal.the-variants as refusalᵛ
-use Rattle.tables.specs.Refusal.{Refusal, textTooLong, notUtf8, noHeader, isMaster, leftOutTag, tooManyDigits, clipTableShort, tagTableShort, brokenTable, outputShort, totalTooLong, badRate, turnTooLate, noSuchClip, windowTooFar, Answer, refused, given, orRefuse}
+use Rattle.tables.specs.Refusal.{Refusal, textTooLong, notUtf8, noHeader, isMaster, leftOutTag, tooManyDigits, clipTableShort, tagTableShort, brokenTable, outputShort, totalTooLong, badRate, turnTooLate, noSuchClip, windowTooFar, nothingPlays, tickTooLate, numberOf, Answer, refused, given, orRefuse}
 use Rattle.tables.specs.Answers.{refusalOf}
 
 -- where one is refused, so is the other, by the same row and at the same place
@@ -78,6 +81,8 @@ named badRate = refusalᵛ.BadRate
 named turnTooLate = refusalᵛ.TurnTooLate
 named noSuchClip = refusalᵛ.NoSuchClip
 named windowTooFar = refusalᵛ.WindowTooFar
+named nothingPlays = refusalᵛ.NothingPlays
+named tickTooLate = refusalᵛ.TickTooLate
 
 pub named-back : (r : refusalᵈ.Refusal) → named (refusalOf r) ≡ r
 named-back refusalᵛ.TextTooLong = refl
@@ -95,3 +100,51 @@ named-back refusalᵛ.BadRate = refl
 named-back refusalᵛ.TurnTooLate = refl
 named-back refusalᵛ.NoSuchClip = refl
 named-back refusalᵛ.WindowTooFar = refl
+named-back refusalᵛ.NothingPlays = refl
+named-back refusalᵛ.TickTooLate = refl
+
+-- ---- a refusal and its number: 01's rows in order, then 02's; 16 is no row yet
+abbrev rows : List Refusal
+rows = textTooLong ∷ notUtf8 ∷ noHeader ∷ isMaster ∷ leftOutTag ∷ tooManyDigits ∷ clipTableShort ∷ tagTableShort ∷ brokenTable ∷ outputShort ∷ totalTooLong ∷ badRate ∷ turnTooLate ∷ noSuchClip ∷ windowTooFar ∷ windowTooFar ∷ nothingPlays ∷ tickTooLate ∷ []
+
+abbrev pub byNumber : ℕ → Refusal
+byNumber n = getD rows (n - 1) windowTooFar
+
+pub by-number : (r : Refusal) → byNumber (numberOf r) ≡ r
+by-number textTooLong = refl
+by-number notUtf8 = refl
+by-number noHeader = refl
+by-number isMaster = refl
+by-number leftOutTag = refl
+by-number tooManyDigits = refl
+by-number clipTableShort = refl
+by-number tagTableShort = refl
+by-number brokenTable = refl
+by-number outputShort = refl
+by-number totalTooLong = refl
+by-number badRate = refl
+by-number turnTooLate = refl
+by-number noSuchClip = refl
+by-number windowTooFar = refl
+by-number nothingPlays = refl
+by-number tickTooLate = refl
+
+-- and none has the number of an accepted answer
+pub number-above : (r : Refusal) → 0 < numberOf r
+number-above textTooLong = omega arith
+number-above notUtf8 = omega arith
+number-above noHeader = omega arith
+number-above isMaster = omega arith
+number-above leftOutTag = omega arith
+number-above tooManyDigits = omega arith
+number-above clipTableShort = omega arith
+number-above tagTableShort = omega arith
+number-above brokenTable = omega arith
+number-above outputShort = omega arith
+number-above totalTooLong = omega arith
+number-above badRate = omega arith
+number-above turnTooLate = omega arith
+number-above noSuchClip = omega arith
+number-above windowTooFar = omega arith
+number-above nothingPlays = omega arith
+number-above tickTooLate = omega arith

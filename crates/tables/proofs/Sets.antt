@@ -8,10 +8,10 @@ use Prim.Native.Nat.{ℕ, suc, _+_, _*_, _≤_, _<_}
 use native.Mathlib.Nat.{add-zero, add-suc, lt-of-mul-lt-mul-right}
 use native.Mathlib.Numerals.{add-one}
 use native.Mathlib.Omega.{arith}
-use lib.ListN.{set, length, take, drop, getD, List·getD-append}
+use lib.ListN.{set, length, take, drop, getD, List·getD-append, length-append}
 use lib.Seq.{sets, length-sets, sets-eq, drop-cons, getD-append-add, getD-set-other, length-take-le}
 use Rattle.tables.specs.Table.{fits, wordAt, stored}
-use Rattle.tables.proofs.Records.{fits-words}
+use Rattle.tables.proofs.Records.{fits-words, words-fit}
 
 -- one word on
 pub sets-on : (l : List ℕ) (at k : ℕ) (ws : List ℕ) → k < length ws → sets (set l (at + k) (getD ws k 0)) (at + (k + 1)) (drop (k + 1) ws) ≡ sets l (at + k) (drop k ws)
@@ -81,3 +81,17 @@ module _ (w k : ℕ) (t ws : List ℕ) where
         let above : j < k + 1 = lt-of-mul-lt-mul-right w (omega arith) in
         other (omega arith)))
         refl
+
+-- a record stored behind those that stand from the front on: the words laid so far, and what is left of the table
+pub stored-behind : (w k : ℕ) (t front ws : List ℕ) → length front ≡ k * w → length ws ≡ w → (k + 1) * w ≤ length t
+    → stored w (front ++ drop (length front) t) k ws ≡ (front ++ ws) ++ drop (length (front ++ ws)) t
+stored-behind w k t front ws e f h =
+    let so-far : sets t 0 front ≡ front ++ drop (length front) t = sets-over t front (omega arith) in
+    let long : length (sets t 0 front) ≡ length t = length-sets t 0 front in
+    let room : fits w (sets t 0 front) (k + 1) ≡ true = words-fit w (k + 1) (sets t 0 front) (omega arith) in
+    let place : k * w ≡ 0 + length front = omega arith in
+    ap (λ (l : List ℕ). stored w l k ws) (sym so-far)
+    ∙ stored-fits w k (sets t 0 front) ws room
+    ∙ ap (λ (p : ℕ). sets (sets t 0 front) p ws) place
+    ∙ sym (sets-append t 0 front ws)
+    ∙ sets-over t (front ++ ws) (rw length-append (omega arith))

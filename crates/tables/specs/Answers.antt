@@ -1,7 +1,7 @@
 -- What each answer of the code says, in the words of the rules. Assumes nothing.
 use Rattle.tables.specs.declared.Refusal as refusalᵈ
 use Rattle.tables.specs.declared.Refusal.the-variants as refusalᵛ
-use Rattle.tables.specs.Refusal.{Refusal, textTooLong, notUtf8, noHeader, isMaster, leftOutTag, tooManyDigits, clipTableShort, tagTableShort, brokenTable, outputShort, totalTooLong, badRate, turnTooLate, noSuchClip, windowTooFar}
+use Rattle.tables.specs.Refusal.{Refusal, textTooLong, notUtf8, noHeader, isMaster, leftOutTag, tooManyDigits, clipTableShort, tagTableShort, brokenTable, outputShort, totalTooLong, badRate, turnTooLate, noSuchClip, windowTooFar, nothingPlays, tickTooLate}
 
 abbrev pub refusalOf : refusalᵈ.Refusal → Refusal
 refusalOf refusalᵛ.TextTooLong = textTooLong
@@ -19,3 +19,5 @@ refusalOf refusalᵛ.BadRate = badRate
 refusalOf refusalᵛ.TurnTooLate = turnTooLate
 refusalOf refusalᵛ.NoSuchClip = noSuchClip
 refusalOf refusalᵛ.WindowTooFar = windowTooFar
+refusalOf refusalᵛ.NothingPlays = nothingPlays
+refusalOf refusalᵛ.TickTooLate = tickTooLate

@@ -5,7 +5,7 @@ use mathlib.Core.List.{List, [], _∷_, map}
 use Prim.Native.Nat.{ℕ, _-_, _^_}
 use lib.ListN.{replicate}
 use Rattle.tables.specs.Layout as layout
-use Rattle.tables.specs.Refusal.{textTooLong, notUtf8, noHeader, isMaster, leftOutTag, tooManyDigits, clipTableShort, tagTableShort, brokenTable, outputShort, totalTooLong, badRate, turnTooLate, noSuchClip, windowTooFar, numberOf, given, answerNumber, orRefuse}
+use Rattle.tables.specs.Refusal.{textTooLong, notUtf8, noHeader, isMaster, leftOutTag, tooManyDigits, clipTableShort, tagTableShort, brokenTable, outputShort, totalTooLong, badRate, turnTooLate, noSuchClip, windowTooFar, nothingPlays, tickTooLate, numberOf, given, answerNumber, orRefuse}
 use Rattle.tables.specs.Table.{clipsFit, tagsFit, fits, tagWord, stored, tagStored, hasFlag}
 
 -- one record's words hold one record, none hold none, and a count of 2^64 - 1 is no more than any other
@@ -74,7 +74,11 @@ places = refl
 tag-places : layout.nameStart ∷ layout.nameEnd ∷ layout.restStart ∷ layout.restEnd ∷ layout.tagWords ∷ [] ≡ 0 ∷ 1 ∷ 2 ∷ 3 ∷ 4 ∷ []
 tag-places = refl
 
--- 01, "Numbers given back", row by row
+-- a table of starts: its start in ns, then its tick
+start-places : layout.startNs ∷ layout.startTick ∷ layout.startWords ∷ [] ≡ 0 ∷ 1 ∷ 2 ∷ []
+start-places = refl
+
+-- 01, "Numbers given back", row by row, then 02's: 17 and 18 of [2]
 refusals :
     map numberOf
     (textTooLong
@@ -92,8 +96,10 @@ refusals :
     ∷ turnTooLate
     ∷ noSuchClip
     ∷ windowTooFar
+    ∷ nothingPlays
+    ∷ tickTooLate
     ∷ [])
-    ≡ 1 ∷ 2 ∷ 3 ∷ 4 ∷ 5 ∷ 6 ∷ 7 ∷ 8 ∷ 9 ∷ 10 ∷ 11 ∷ 12 ∷ 13 ∷ 14 ∷ 15 ∷ []
+    ≡ 1 ∷ 2 ∷ 3 ∷ 4 ∷ 5 ∷ 6 ∷ 7 ∷ 8 ∷ 9 ∷ 10 ∷ 11 ∷ 12 ∷ 13 ∷ 14 ∷ 15 ∷ 17 ∷ 18 ∷ []
 refusals = refl
 
 -- the number of a refusal and of an accepted answer

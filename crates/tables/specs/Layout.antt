@@ -84,6 +84,16 @@ restStart = 2
 abbrev pub restEnd : ℕ
 restEnd = 3
 
+-- ---- a clip's record in a table of starts (02, [2]): its start in ns within the turn, its start tick in a given turn
+abbrev pub startWords : ℕ
+startWords = 2
+
+abbrev pub startNs : ℕ
+startNs = 0
+
+abbrev pub startTick : ℕ
+startTick = 1
+
 -- ---- flags: 1 range, 2 range offset, 4 discontinuity, 8 map, 16 map range, 32 map offset
 abbrev pub hasRange : ℕ
 hasRange = 1

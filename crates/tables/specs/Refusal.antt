@@ -1,7 +1,9 @@
--- 01's table "Numbers given back": each refusal by name, with the words of its row, and a public call's answer.
+-- 01's table "Numbers given back", and the numbers that 02's requests add: each refusal by name, with the words of its row, and a public call's answer.
 -- Assumes nothing.
 use Prim.Native.Nat.{ℕ}
 use mathlib.Core.Bool.{Bool, true, false}
+use mathlib.Core.List.{List, _++_}
+use lib.ListN.{length, drop}
 
 pub data Refusal : Type 0 where
   -- text above 65,536 bytes
@@ -34,6 +36,10 @@ pub data Refusal : Type 0 where
   noSuchClip : Refusal
   -- window's end above 2^64 - 1
   windowTooFar : Refusal
+  -- 02, [2]: no clips or total 0
+  nothingPlays : Refusal
+  -- 02, [2]: t at or past the start tick of turn 1,000,000
+  tickTooLate : Refusal
 
 -- the number of its row
 abbrev pub numberOf : Refusal → ℕ
@@ -52,6 +58,8 @@ numberOf badRate = 12
 numberOf turnTooLate = 13
 numberOf noSuchClip = 14
 numberOf windowTooFar = 15
+numberOf nothingPlays = 17
+numberOf tickTooLate = 18
 
 -- what a public call gives back: a refusal with its place, or values
 pub data Answer (A : Type 0) : Type 0 where
@@ -71,3 +79,8 @@ answerPlace (given a) = 0
 abbrev pub orRefuse : {A : Type 0} → Bool → Refusal → ℕ → Answer A → Answer A
 orRefuse true r p answer = answer
 orRefuse false r p answer = refused r p
+
+-- lent memory afterwards: what was given stands at its front and the rest is as before; "No lent memory changes" where the call is refused
+abbrev pub laid : {A : Type 0} → Answer A → List ℕ → List ℕ → List ℕ
+laid (refused r p) ws entry = entry
+laid (given a) ws entry = ws ++ drop (length ws) entry

@@ -28,6 +28,9 @@ clipsFit t n = fits layout.clipWords t n
 abbrev pub tagsFit : List ℕ → ℕ → Bool
 tagsFit t n = fits layout.tagWords t n
 
+abbrev pub startsFit : List ℕ → ℕ → Bool
+startsFit t n = fits layout.startWords t n
+
 -- the word at a place of record k; 0 where the table has none
 abbrev pub wordAt : ℕ → List ℕ → ℕ → ℕ → ℕ
 wordAt w t k i = getD t (k * w + i) 0
@@ -51,6 +54,9 @@ clipStored t k ws = stored layout.clipWords t k ws
 
 abbrev pub tagStored : List ℕ → ℕ → List ℕ → List ℕ
 tagStored t k ws = stored layout.tagWords t k ws
+
+abbrev pub startStored : List ℕ → ℕ → List ℕ → List ℕ
+startStored t k ws = stored layout.startWords t k ws
 
 -- a word of flags holds this one: divided by it, the word is odd
 unfoldable pub hasFlag : ℕ → ℕ → Bool

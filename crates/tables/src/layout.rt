@@ -48,6 +48,13 @@ pub const REST_START: usize = 2;
 
 pub const REST_END: usize = 3;
 
+// A clip's record in a table of starts (02, [2]).
+pub const START_WORDS: usize = 2;
+
+pub const START_NS: usize = 0;
+
+pub const START_TICK: usize = 1;
+
 // What a clip's flags add up from. A word of flags is below the limit.
 pub const HAS_RANGE: u64 = 1;
 

@@ -7,7 +7,7 @@ ghost use Rattle.tables.specs.Answers.{refusalOf};
 pub mod layout; // where each word of a record stands
 pub mod record; // the count fits, the words of a record, its flags
 
-// 01's table "Numbers given back", row by row.
+// 01's table "Numbers given back", row by row, and the numbers that document 02's requests add.
 pub enum Refusal {
     TextTooLong,
     NotUtf8,
@@ -24,6 +24,8 @@ pub enum Refusal {
     TurnTooLate,
     NoSuchClip,
     WindowTooFar,
+    NothingPlays,
+    TickTooLate,
 }
 
 impl Refusal {
@@ -47,6 +49,8 @@ impl Refusal {
             Refusal::TurnTooLate => 13,
             Refusal::NoSuchClip => 14,
             Refusal::WindowTooFar => 15,
+            Refusal::NothingPlays => 17,
+            Refusal::TickTooLate => 18,
         }
     }
 }

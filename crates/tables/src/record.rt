@@ -25,6 +25,12 @@ pub fn tags_fit(words: &[u64], tags: usize) -> bool
     fits(words, layout::TAG_WORDS, tags)
 }
 
+pub fn starts_fit(words: &[u64], clips: usize) -> bool
+    ensures { λ r. ⌜ r ≡ rule.startsFit (now (words .entry)) clips ⌝ }
+{
+    fits(words, layout::START_WORDS, clips)
+}
+
 // The word at a place of any record, 0 where the table has none. The index is computed only where it is in the table.
 fn edge_word(words: &[u64], width: usize, index: usize, place: usize) -> u64
     requires { ⌜ 0 < width ⌝ }
@@ -120,6 +126,12 @@ pub fn store_tag(words: &mut [u64], tag: usize, values: &[u64; layout::TAG_WORDS
     ensures { λ _. ⌜ now (words .exit) ≡ rule.tagStored (now (words .entry)) tag (now (values .entry)) ⌝ }
 {
     store(words, layout::TAG_WORDS, tag, values);
+}
+
+pub fn store_start(words: &mut [u64], clip: usize, values: &[u64; layout::START_WORDS])
+    ensures { λ _. ⌜ now (words .exit) ≡ rule.startStored (now (words .entry)) clip (now (values .entry)) ⌝ }
+{
+    store(words, layout::START_WORDS, clip, values);
 }
 
 // Whether a word of flags holds a flag, one of the layout's.

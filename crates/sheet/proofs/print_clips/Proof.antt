@@ -4,8 +4,8 @@ use mathlib.Core.Path.{sym, ap, _∙_}
 use borrow.Author.Needs.{needs}
 use denote.Ref.{now}
 use Rattle.tables.specs.Refusal.{Answer}
-use Rattle.clock.specs.Answers.{openedOf}
-use Rattle.clock.specs.Starts.{Cursor}
+use Rattle.starts.specs.Answers.{openedOf}
+use Rattle.starts.specs.Starts.{Cursor}
 use Rattle.output.proofs.Laws.{first-as}
 use Rattle.sheet.specs.Sheet.{refusedLine, printed}
 use Rattle.sheet.specs.Inside.Pass.{openedSheet, wordsSheet}

@@ -4,7 +4,7 @@ use mathlib.Core.List.{List, [], _++_}
 use Rattle.tables.specs.Layout.{uriStart, uriEnd}
 use Rattle.tables.specs.Table.{clipWord}
 use Rattle.tables.specs.Refusal.{Answer, refused, given}
-use Rattle.clock.specs.Starts.{Cursor, cursor, Row, row, Step, done, clip, starts, next}
+use Rattle.starts.specs.Starts.{Cursor, cursor, Row, row, Step, done, clip, starts, next}
 use Rattle.output.specs.Waiting.{part}
 use Rattle.sheet.specs.Sheet.{sheetRate, headerLine, clipLine, totalLine}
 

@@ -8,11 +8,11 @@ use borrow.Author.Needs.{needs}
 use types.Run.{OneOf}
 use denote.Enum.Declared
 use denote.Ref.{now}
-use Rattle.clock.specs.Answers.{cursorOf, stepOf}
-use Rattle.clock.specs.Starts.{Cursor}
-use Rattle.clock.specs.declared.starts.Step as stepᵈ
-use Rattle.clock.specs.declared.starts.Step.the-variants as stepᵛ
-use Rattle.clock.proofs.starts.Step as step
+use Rattle.starts.specs.Answers.{cursorOf, stepOf}
+use Rattle.starts.specs.Starts.{Cursor}
+use Rattle.starts.specs.declared.Step as stepᵈ
+use Rattle.starts.specs.declared.Step.the-variants as stepᵛ
+use Rattle.starts.proofs.Step as step
 use Rattle.output.proofs.Laws.{puts-none, puts-as}
 use Rattle.sheet.specs.Inside.Pass.{stepLine, stepAfter}
 use Rattle.sheet.proofs.lines.next_clip.Statement.{statement}
