@@ -11,8 +11,11 @@ use Rattle.text.specs.Util.{ByteRange, range}
 use Rattle.text.specs.BasicTags.{ExtTag, ext}
 use Rattle.attributes.specs.ExtMap.{Map, extMap}
 use Rattle.tables.specs.Layout.{clipWords, tagWords}
-use Rattle.assembly.specs.Assembly.{Clip, clip, segment}
-use Rattle.assembly.specs.Words.{partWords, rangeWords, mapWords, clipWordsOf, tagWordsOf, clipsWords, tagsWords}
+use Rattle.assembly.specs.Assembly.{Clip}
+use Rattle.assembly.specs.Words.{spanWords, partWords, rangeWords, mapWords, clipWordsOf, tagWordsOf, clipsWords, tagsWords}
+
+span-words-length : (s : Span) → length (spanWords s) ≡ 2
+span-words-length (span a b) = refl
 
 part-words-length : (s : Option Span) → length (partWords s) ≡ 2
 part-words-length none = refl
@@ -29,7 +32,9 @@ map-words-length (some (extMap (span a b) r (span x y))) = simp length-append (o
 
 pub clip-words-length : (c : Clip) → length (clipWordsOf c) ≡ clipWords
 unfolding clipWordsOf
-clip-words-length (clip (span a b) (segment l t r d m) f n) = simp length-append (omega (arith, part-words-length t, range-words-length r, map-words-length m))
+clip-words-length c =
+    let s = c .segment in
+    simp length-append (omega (arith, span-words-length (c .uri), part-words-length (s .title), range-words-length (s .range), map-words-length (s .map)))
 
 pub tag-words-length : (t : ExtTag) → length (tagWordsOf t) ≡ tagWords
 unfolding tagWordsOf

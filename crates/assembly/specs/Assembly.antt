@@ -41,20 +41,27 @@ headNext h iFramesOnly = head (h .version) (h .target) (h .sequence) (h .discont
 headNext h independentSegments = head (h .version) (h .target) (h .sequence) (h .discontinuities) (h .type) (h .ended) (h .iFrames) true
 
 -- ---- the clip in the making: length in ns, title, range, discontinuity, map
-pub data Segment : Type 0 where
-  segment : ℕ → Option Span → Option ByteRange → Bool → Option Map → Segment
+pub record Segment : Type 0 where
+  pub length : ℕ
+  pub title : Option Span
+  pub range : Option ByteRange
+  pub discontinuity : Bool
+  pub map : Option Map
+
+abbrev pub segment : ℕ → Option Span → Option ByteRange → Bool → Option Map → Segment
+segment l t r d m = record { length = l; title = t; range = r; discontinuity = d; map = m }
 
 -- MediaSegment::empty(): "a missing EXTINF is length 0, no title"
 abbrev pub emptySegment : Segment
 emptySegment = segment 0 none none false none
 
 abbrev pub segmentNext : Segment → ClipTag → Segment
-segmentNext (segment l t r d m) (timed (extinf (ns x) title)) = segment x title r d m
+segmentNext s (timed (extinf (ns x) title)) = segment x title (s .range) (s .discontinuity) (s .map)
 -- (refused by 6)
-segmentNext (segment l t r d m) (timed (extinf tooManyDigits title)) = segment l t r d m
-segmentNext (segment l t r d m) (ranged x) = segment l t (some x) d m
-segmentNext (segment l t r d m) discontinuity = segment l t r true m
-segmentNext (segment l t r d m) (mapped x) = segment l t r d (some x)
+segmentNext s (timed (extinf tooManyDigits title)) = s
+segmentNext s (ranged x) = segment (s .length) (s .title) (some x) (s .discontinuity) (s .map)
+segmentNext s discontinuity = segment (s .length) (s .title) (s .range) true (s .map)
+segmentNext s (mapped x) = segment (s .length) (s .title) (s .range) (s .discontinuity) (some x)
 
 -- ---- what is counted: clips so far, unknown tags of these, unknown tags since
 pub record Counts : Type 0 where
@@ -107,8 +114,14 @@ next s t = record { headOf = headAfter (s .headOf) t; segmentOf = segmentAfter (
 
 -- "A URI ends a clip, which takes the length and title of the latest EXTINF, the latest range and map, discontinuity and all unknown tags since the URI
 -- before": its URI, what was in the making, its first unknown tag and how many
-pub data Clip : Type 0 where
-  clip : Span → Segment → ℕ → ℕ → Clip
+pub record Clip : Type 0 where
+  pub uri : Span
+  pub segment : Segment
+  pub firstTag : ℕ
+  pub tagCount : ℕ
+
+abbrev pub clip : Span → Segment → ℕ → ℕ → Clip
+clip u s f n = record { uri = u; segment = s; firstTag = f; tagCount = n }
 
 abbrev pub clipIn : State → Tag → List Clip
 clipIn s (ofHead t) = []

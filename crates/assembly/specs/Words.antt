@@ -9,7 +9,7 @@ use Rattle.text.specs.BasicTags.{ExtTag, ext}
 use Rattle.attributes.specs.ExtMap.{Map, extMap}
 use Rattle.lengths.specs.Binary32.{secondsBits}
 use Rattle.tables.specs.Layout.{hasRange, hasRangeOffset, hasDiscontinuity, hasMap, hasMapRange, hasMapOffset}
-use Rattle.assembly.specs.Assembly.{segment, Clip, clip}
+use Rattle.assembly.specs.Assembly.{Clip}
 
 abbrev pub spanWords : Span → List ℕ
 spanWords (span a b) = a ∷ b ∷ []
@@ -48,14 +48,15 @@ flagsOf r d m = rangeFlags hasRange hasRangeOffset r + breakFlags d + mapFlags m
 
 -- "0, 1 URI start and end; 2 length in ns; 3 its binary32 bits; 4, 5 title; 6 flags; 7, 8 range length, offset; 9 to 14 map; 15 first unknown tag; 16 how many"
 unfoldable pub clipWordsOf : Clip → List ℕ
-clipWordsOf (clip u (segment l t r d m) f n) =
-    spanWords u
-    ++ ((l ∷ secondsBits l ∷ [])
-    ++ (partWords t
-    ++ ((flagsOf r d m ∷ [])
-    ++ (rangeWords r
-    ++ (mapWords m
-    ++ (f ∷ n ∷ []))))))
+clipWordsOf c =
+    let s = c .segment in
+    spanWords (c .uri)
+    ++ ((s .length ∷ secondsBits (s .length) ∷ [])
+    ++ (partWords (s .title)
+    ++ ((flagsOf (s .range) (s .discontinuity) (s .map) ∷ [])
+    ++ (rangeWords (s .range)
+    ++ (mapWords (s .map)
+    ++ (c .firstTag ∷ c .tagCount ∷ []))))))
 
 -- "Unknown tag: name start, end, rest start, end."
 unfoldable pub tagWordsOf : ExtTag → List ℕ

@@ -1,6 +1,6 @@
 -- What rule 9 says of the spans of head, clips and unknown tags: they end within the text, and so below any n that is not less. Rests on rule9/proofs/Kept.
 -- Assumes nothing.
-use mathlib.Core.Path.{_≡_}
+use mathlib.Core.Path.{_≡_, ap}
 use mathlib.Core.Bool.{Bool, true, false, not, _&&_}
 use mathlib.Core.List.{List}
 use mathlib.Core.Option.{Option, none, some}
@@ -8,12 +8,12 @@ use Prim.Native.Nat.{ℕ, _≤_, _<_}
 use native.Mathlib.Omega.{arith}
 use lib.Dec.{eqb}
 use lib.ListN.{length}
-use Rattle.text.specs.Nom.{Span, span}
+use Rattle.text.specs.Nom.{span}
 use Rattle.text.specs.BasicTags.{PlaylistType, event, vod, other}
 use Rattle.tables.specs.Layout as layout
 use Rattle.tables.specs.Table.{clipWord, tagWord, hasFlag}
 use Rattle.attributes.specs.ExtMap.{extMap}
-use Rattle.assembly.specs.Assembly.{Head, Segment, clip}
+use Rattle.assembly.specs.Assembly.{Head, Clip}
 use Rattle.records.specs.Records.{optional, partAt, rangeAt, mapAt, clipAt, tagAt}
 use Rattle.rule9.specs.Rule9.{typeFits, keepsRule}
 use Rattle.rule9.proofs.Kept.{SpanKept, span-kept, rule-kept, clip-kept, tag-kept, run-within}
@@ -69,6 +69,6 @@ module _ (text : List ℕ) (n : ℕ) (most : length text ≤ n) where
     rule-below = (type-below, (runs-within, (tags-below, clips-below)))
 
 -- the run of clip k, by its words
-pub clip-run : (clips : List ℕ) (k : ℕ) {u : Span} {s : Segment} {f n : ℕ} → clip u s f n ≡ clipAt clips k → (f ≡ clipWord clips k layout.firstTag) × (n ≡ clipWord clips k layout.tagCount)
+pub clip-run : (clips : List ℕ) (k : ℕ) {c : Clip} → c ≡ clipAt clips k → (c .firstTag ≡ clipWord clips k layout.firstTag) × (c .tagCount ≡ clipWord clips k layout.tagCount)
 unfolding clipAt
-clip-run clips k e = (cc, cc)
+clip-run clips k e = (ap (λ (c : Clip). c .firstTag) e, ap (λ (c : Clip). c .tagCount) e)

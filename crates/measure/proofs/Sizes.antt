@@ -19,7 +19,7 @@ use Rattle.tables.specs.Layout as layout
 use Rattle.tables.specs.Table.{listed, clipWord}
 use Rattle.tables.proofs.Listed.{listed-run}
 use Rattle.tags.specs.Tags.{literal, byteRangeRow}
-use Rattle.assembly.specs.Assembly.{Head, segment, Clip, clip}
+use Rattle.assembly.specs.Assembly.{Head, Clip}
 use Rattle.records.specs.Records.{clipAt, tagAt, tagsAt}
 use Rattle.rule9.specs.Rule9.{keepsRule}
 use Rattle.playlist.specs.Lines.{Line, mapLine, extinfLine, unknownLine, uriLine, playlistTypeLine, versionLine, independentSegmentsLine, targetDurationLine, mediaSequenceLine, discontinuitySequenceLine, iFramesOnlyLine, discontinuityLine, byteRangeLine, endListLine, headerLine, rangeBytes, mapRangeBytes, restBytes, lineBytes, lineIf, lineWhere, lineUnlessZero, linesText, typeText, typeLineOf, mapLineOf, tagLineOf, titleText, restLines, headLines, clipLines, clipsLines}
@@ -78,7 +78,7 @@ clips-more tags c cs = refl
 
 -- where a clip's run of unknown tags ends
 abbrev runEnd : Clip → ℕ
-runEnd (clip u s f n) = f + n
+runEnd c = c .firstTag + c .tagCount
 
 run-end : {m : ℕ} (clips : List ℕ) (k : ℕ) → clipWord clips k layout.firstTag + clipWord clips k layout.tagCount ≤ m → runEnd (clipAt clips k) ≤ m
 unfolding clipAt
@@ -156,19 +156,21 @@ module _ (text tags : List ℕ) where
   module _ (m : ℕ) (below : TagsBelow (length text) tags m) where
     clip-long : (c : Clip) → ClipBelow (length text) c → runEnd c ≤ m → length (clipText text tags m c) ≡ fullSize tags c
     unfolding clipSize
-    clip-long (clip u (segment l t r d p) f n) h e =
+    clip-long c h e =
+        let s = c .segment in
+        let t = titleText text (s .title) in
         omega (
           arith,
-          simp length-append at (ap length (clip-text text tags m u l t r d p f n)),
-          ap (λ ts. length (linesText (map (tagLineOf text) ts))) (listed-run (tagAt tags) f n m e),
-          map-long text p (h .1 .1),
-          ap length (line-where discontinuityLine d),
-          tags-long f n (λ j b. below j (omega arith)),
-          length-append (lengthText l) (bytes "," ++ (titleText text t ++ bytes "\n")),
-          length-append (titleText text t) (bytes "\n"),
-          extinf-long text l t (h .1 .0),
-          length-append (shown text u) (bytes "\n"),
-          uri-long text u (h .0),
+          simp length-append at (ap length (clip-text text tags m c)),
+          ap (λ ts. length (linesText (map (tagLineOf text) ts))) (listed-run (tagAt tags) (c .firstTag) (c .tagCount) m e),
+          map-long text (s .map) (h .1 .1),
+          ap length (line-where discontinuityLine (s .discontinuity)),
+          tags-long (c .firstTag) (c .tagCount) (λ j b. below j (omega arith)),
+          length-append (lengthText (s .length)) (bytes "," ++ (t ++ bytes "\n")),
+          length-append t (bytes "\n"),
+          extinf-long text (s .length) (s .title) (h .1 .0),
+          length-append (shown text (c .uri)) (bytes "\n"),
+          uri-long text (c .uri) (h .0),
         )
 
     clips-long : (clips : List ℕ) (k n : ℕ) → ClipsBelow (length text) clips (k + n) → RunsWithin clips (k + n) m → length (clipsText text tags m clips k n) ≡ clipsSize tags (listed (clipAt clips) k n)

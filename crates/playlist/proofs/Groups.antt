@@ -2,7 +2,6 @@
 use mathlib.Core.Path.{_≡_, refl, ap, _∙_}
 use mathlib.Core.Bool.{Bool, true, false, cond}
 use mathlib.Core.List.{List, [], _∷_, _++_, map}
-use mathlib.Core.Option.{Option}
 use Prim.Native.Nat.{ℕ, _+_, _-_, _≤_, _<_, min}
 use native.Mathlib.Nat.{min-eq-left, min-eq-right, min-zero}
 use native.Mathlib.Omega.{arith}
@@ -10,12 +9,9 @@ use lib.Dec.{eqb, leb}
 use lib.ListN.{length, take, drop, drop-of-length-le}
 use lib.Seq.{take-all, take-nil}
 use borrow.Author.Tests.{leb-true, leb-false}
-use Rattle.text.specs.Nom.{Span}
-use Rattle.text.specs.Util.{ByteRange}
-use Rattle.attributes.specs.ExtMap.{Map}
 use Rattle.tables.specs.Table.{listed}
 use Rattle.tables.proofs.Listed.{listed-left, listed-over, listed-none, listed-length, listed-drop, listed-take}
-use Rattle.assembly.specs.Assembly.{Head, segment, Clip, clip}
+use Rattle.assembly.specs.Assembly.{Head, Clip}
 use Rattle.records.specs.Records.{clipAt, tagAt, clipsAt, tagsAt}
 use Rattle.text.specs.Spans.{shown}
 use Rattle.playlist.specs.Lines.{headerLine, versionLine, independentSegmentsLine, targetDurationLine, mediaSequenceLine, discontinuitySequenceLine, iFramesOnlyLine, byteRangeLine, discontinuityLine, extinfLine, uriLine, endListLine, lineBytes, lineIf, lineWhere, lineUnlessZero, linesText, typeLineOf, mapLineOf, tagLineOf, titleText, restLines, headLines, clipLines, clipsLines, endLines, playlistLines, playlistText}
@@ -81,27 +77,29 @@ module _ (text : List ℕ) (hd : Head) where
       )
 
 -- ---- a clip
-pub clip-text : (text tags : List ℕ) (count : ℕ) (u : Span) (l : ℕ) (t : Option Span) (r : Option ByteRange) (d : Bool) (m : Option Map) (f n : ℕ)
-    → clipText text tags count (clip u (segment l t r d m) f n)
-    ≡ linesText (lineIf (mapLineOf text) m)
-    ++ (linesText (lineIf byteRangeLine r)
-    ++ (cond d (lineBytes discontinuityLine) []
-    ++ (runText text tags count f n
-    ++ (lineBytes (extinfLine l (titleText text t))
-    ++ lineBytes (uriLine (shown text u))))))
+pub clip-text : (text tags : List ℕ) (count : ℕ) (c : Clip) →
+    (let s = c .segment in
+    clipText text tags count c
+    ≡ linesText (lineIf (mapLineOf text) (s .map))
+    ++ (linesText (lineIf byteRangeLine (s .range))
+    ++ (cond (s .discontinuity) (lineBytes discontinuityLine) []
+    ++ (runText text tags count (c .firstTag) (c .tagCount)
+    ++ (lineBytes (extinfLine (s .length) (titleText text (s .title)))
+    ++ lineBytes (uriLine (shown text (c .uri))))))))
 unfolding clipLines
-clip-text text tags count u l t r d m f n =
-    let ranges = lineIf byteRangeLine r in
-    let marks = lineWhere discontinuityLine d in
-    let others = map (tagLineOf text) (take n (drop f (tagsAt tags count))) in
-    let e = extinfLine l (titleText text t) in
-    let w = uriLine (shown text u) in
+clip-text text tags count c =
+    let s = c .segment in
+    let ranges = lineIf byteRangeLine (s .range) in
+    let marks = lineWhere discontinuityLine (s .discontinuity) in
+    let others = map (tagLineOf text) (take (c .tagCount) (drop (c .firstTag) (tagsAt tags count))) in
+    let e = extinfLine (s .length) (titleText text (s .title)) in
+    let w = uriLine (shown text (c .uri)) in
     rw (
-      lines-append (lineIf (mapLineOf text) m) (ranges ++ (marks ++ (others ++ (e ∷ w ∷ [])))),
+      lines-append (lineIf (mapLineOf text) (s .map)) (ranges ++ (marks ++ (others ++ (e ∷ w ∷ [])))),
       lines-append ranges (marks ++ (others ++ (e ∷ w ∷ []))),
       lines-append marks (others ++ (e ∷ w ∷ [])),
       lines-append others (e ∷ w ∷ []),
-      line-where discontinuityLine d,
+      line-where discontinuityLine (s .discontinuity),
       more-lines e (w ∷ []),
       one-line w,
     )

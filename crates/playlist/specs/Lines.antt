@@ -11,7 +11,7 @@ use Rattle.text.specs.BasicTags.{ExtTag, ext, PlaylistType, event, vod, other}
 use Rattle.text.specs.Lines.{unlines}
 use Rattle.attributes.specs.ExtMap.{Map, extMap}
 use Rattle.digits.specs.Digits.{numberText, lengthText}
-use Rattle.assembly.specs.Assembly.{Head, segment, Clip, clip}
+use Rattle.assembly.specs.Assembly.{Head, Clip}
 use Rattle.text.specs.Spans.{shown, shownPart}
 
 -- a line of the text, its parts by their bytes
@@ -129,12 +129,13 @@ titleText text (some s) = shown text s
 
 -- MediaSegment::write_to, with its unknown tags
 unfoldable pub clipLines : List ℕ → List ExtTag → Clip → List Line
-clipLines text tags (clip u (segment l t r d m) f n) =
-    lineIf (mapLineOf text) m
-    ++ (lineIf byteRangeLine r
-    ++ (lineWhere discontinuityLine d
-    ++ (map (tagLineOf text) (take n (drop f tags))
-    ++ (extinfLine l (titleText text t) ∷ uriLine (shown text u) ∷ []))))
+clipLines text tags c =
+    let s = c .segment in
+    lineIf (mapLineOf text) (s .map)
+    ++ (lineIf byteRangeLine (s .range)
+    ++ (lineWhere discontinuityLine (s .discontinuity)
+    ++ (map (tagLineOf text) (take (c .tagCount) (drop (c .firstTag) tags))
+    ++ (extinfLine (s .length) (titleText text (s .title)) ∷ uriLine (shown text (c .uri)) ∷ []))))
 
 -- for segment in &self.segments { segment.write_to(w)?; }
 unfoldable pub clipsLines : List ℕ → List ExtTag → List Clip → List Line

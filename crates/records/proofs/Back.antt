@@ -17,7 +17,7 @@ use Rattle.attributes.specs.ExtMap.{Map, extMap}
 use Rattle.tables.specs.Layout as layout
 use Rattle.tables.specs.Table.{listed, clipWord, tagWord, hasFlag}
 use Rattle.assembly.specs.Assembly.{segment, Clip, clip}
-use Rattle.assembly.specs.Words.{partWords, rangeWords, mapWords, flagsOf, clipWordsOf, tagWordsOf, clipsWords, tagsWords}
+use Rattle.assembly.specs.Words.{spanWords, partWords, rangeWords, mapWords, flagsOf, clipWordsOf, tagWordsOf, clipsWords, tagsWords}
 use Rattle.assembly.proofs.ReadBack.{clip-back, tag-back}
 use Rattle.records.specs.Records.{optional, partAt, rangeAt, mapAt, clipAt, tagAt, clipsAt, tagsAt}
 
@@ -30,6 +30,9 @@ RealPart (some (span a b)) = 0 < b
 -- word i of a part, a range or a map
 abbrev at : List ℕ → ℕ → ℕ
 at words i = getD words i 0
+
+span-back : (s : Span) → span (at (spanWords s) 0) (at (spanWords s) 1) ≡ s
+span-back (span a b) = refl
 
 part-back : (p : Option Span) → RealPart p → partAt (at (partWords p) 0) (at (partWords p) 1) ≡ p
 unfolding partAt
@@ -84,7 +87,7 @@ flags-tell (some (range n (some o))) true (some (extMap (span a b) (some (range 
 -- ---- a clip
 -- present parts are real
 abbrev pub RealClip : Clip → Type 0
-RealClip (clip u (segment l t r d m) f n) = RealPart t
+RealClip c = RealPart (c .segment .title)
 
 -- a clip out of its words
 abbrev clipFrom : (ℕ → ℕ) → Clip
@@ -104,7 +107,10 @@ clip-from-same v w h =
     rw (h 0 (omega arith), h 1 (omega arith), h 2 (omega arith), h 4 (omega arith), h 5 (omega arith), h 6 (omega arith), h 7 (omega arith), h 8 (omega arith))
     (rw (h 9 (omega arith), h 10 (omega arith), h 11 (omega arith), h 12 (omega arith), h 13 (omega arith), h 14 (omega arith), h 15 (omega arith), h 16 (omega arith)))
 
--- the parts of a record have two, two and six words
+-- the parts of a record have two, two, two and six words
+pub span-two : (s : Span) → spanWords s ≡ at (spanWords s) 0 ∷ at (spanWords s) 1 ∷ []
+span-two (span a b) = refl
+
 pub part-two : (p : Option Span) → partWords p ≡ at (partWords p) 0 ∷ at (partWords p) 1 ∷ []
 part-two none = refl
 part-two (some (span a b)) = refl
@@ -122,10 +128,11 @@ map-six (some (extMap (span a b) (some (range j (some i))) (span x y))) = refl
 
 clip-from-back : (c : Clip) → RealClip c → clipFrom (at (clipWordsOf c)) ≡ c
 unfolding clipWordsOf
-clip-from-back (clip (span a b) (segment l t r d m) f n) h =
-    let told = flags-tell r d m in
-    rw (part-two t, range-two r, map-six m)
-    (λ i. clip (span a b) (segment l (part-back t h i) (told .0 i) (told .1 i) (told .2 i)) f n)
+clip-from-back c h =
+    let s = c .segment in
+    let told = flags-tell (s .range) (s .discontinuity) (s .map) in
+    rw (span-two (c .uri), part-two (s .title), range-two (s .range), map-six (s .map))
+    (λ i. clip (span-back (c .uri) i) (segment (s .length) (part-back (s .title) h i) (told .0 i) (told .1 i) (told .2 i)) (c .firstTag) (c .tagCount))
 
 pub clip-at-back : (cs ds : List Clip) (c : Clip) (rest : List ℕ) → RealClip c → clipAt (clipsWords (cs ++ (c ∷ ds)) ++ rest) (length cs) ≡ c
 unfolding clipAt mapAt

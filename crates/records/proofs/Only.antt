@@ -11,6 +11,7 @@ use Rattle.attributes.specs.Answers.{optRangeOf}
 use Rattle.attributes.proofs.Only.{map-only}
 use Rattle.assembly.specs.declared.segment.SegmentMap.the-variants as mapᵛ
 use Rattle.assembly.specs.declared.Clip as clipᵈ
+use Rattle.assembly.specs.Assembly.{Segment, Clip}
 use Rattle.assembly.specs.Answers.{segmentMapOf, segmentSeen, clipSeen}
 use Rattle.records.specs.Records.{clipAt, tagAt}
 
@@ -28,19 +29,19 @@ segment-map-only (mapᵛ.Is m) (mapᵛ.Is n) e = ap mapᵛ.Is (map-only m n (cc)
 
 pub segment-only : Only segmentSeen
 segment-only a b e =
-    let length : a .length ≡ b .length = cc in
-    let title : a .title ≡ b .title = part-only (a .title) (b .title) (cc) in
-    let range : a .«byte_range» ≡ b .«byte_range» = range-only (a .«byte_range») (b .«byte_range») (cc) in
-    let discontinuity : a .discontinuity ≡ b .discontinuity = cc in
-    let map : a .map ≡ b .map = segment-map-only (a .map) (b .map) (cc) in
+    let length : a .length ≡ b .length = ap (λ (s : Segment). s .length) e in
+    let title : a .title ≡ b .title = part-only (a .title) (b .title) (ap (λ (s : Segment). s .title) e) in
+    let range : a .«byte_range» ≡ b .«byte_range» = range-only (a .«byte_range») (b .«byte_range») (ap (λ (s : Segment). s .range) e) in
+    let discontinuity : a .discontinuity ≡ b .discontinuity = ap (λ (s : Segment). s .discontinuity) e in
+    let map : a .map ≡ b .map = segment-map-only (a .map) (b .map) (ap (λ (s : Segment). s .map) e) in
     λ i. record { length = length i; title = title i; «byte_range» = range i; discontinuity = discontinuity i; map = map i }
 
 pub clip-only : Only clipSeen
 clip-only a b e =
-    let uri : a .uri ≡ b .uri = span-only (a .uri) (b .uri) (cc) in
-    let segment : a .segment ≡ b .segment = segment-only (a .segment) (b .segment) (cc) in
-    let first : a .first ≡ b .first = cc in
-    let count : a .count ≡ b .count = cc in
+    let uri : a .uri ≡ b .uri = span-only (a .uri) (b .uri) (ap (λ (c : Clip). c .uri) e) in
+    let segment : a .segment ≡ b .segment = segment-only (a .segment) (b .segment) (ap (λ (c : Clip). c .segment) e) in
+    let first : a .first ≡ b .first = ap (λ (c : Clip). c .firstTag) e in
+    let count : a .count ≡ b .count = ap (λ (c : Clip). c .tagCount) e in
     λ i. record { uri = uri i; segment = segment i; first = first i; count = count i }
 
 -- ---- two results at the same table and index

@@ -8,7 +8,7 @@ use lib.ListN.{take, drop}
 use Rattle.text.specs.Util.{ByteRange, range}
 use Rattle.text.specs.BasicTags.{ExtTag, ext, PlaylistType, event, vod, other}
 use Rattle.attributes.specs.ExtMap.{Map, extMap}
-use Rattle.assembly.specs.Assembly.{Head, segment, Clip, clip}
+use Rattle.assembly.specs.Assembly.{Head, Clip}
 use Rattle.text.specs.Spans.{shown, shownPart, sameAll, sameBytes}
 
 -- ---- a list with its spans shown
@@ -52,8 +52,10 @@ pub data ShownClip : Type 0 where
   clipShown : List ℕ → ℕ → Option (List ℕ) → Option ByteRange → Bool → Option ShownMap → ℕ → ℕ → List ShownTag → ShownClip
 
 abbrev pub shownClip : List ℕ → List ExtTag → Clip → ShownClip
-shownClip text tags (clip u (segment l t r d m) f n) =
-    clipShown (shown text u) l (shownPart text t) r d (shownMap text m) f n (map (shownTag text) (take n (drop f tags)))
+shownClip text tags c =
+    let s = c .segment in
+    clipShown (shown text (c .uri)) (s .length) (shownPart text (s .title)) (s .range) (s .discontinuity) (shownMap text (s .map)) (c .firstTag) (c .tagCount)
+    (map (shownTag text) (take (c .tagCount) (drop (c .firstTag) tags)))
 
 pub data ShownList : Type 0 where
   listShown : ShownHead → List ShownClip → ShownList

@@ -15,7 +15,7 @@ use Rattle.lengths.specs.Duration.{ns, extinf}
 use Rattle.lengths.specs.Duration as lengths
 use Rattle.tables.specs.Refusal.{Refusal, leftOutTag, tooManyDigits}
 use Rattle.tags.specs.Tags.{HeadTag, version, targetDuration, mediaSequence, discontinuitySequence, typed, iFramesOnly, independentSegments, endList, ClipTag, timed, ranged, discontinuity, mapped, Tag, ofHead, ofClip, unknown, comment, uri, leftOut, Taken, took}
-use Rattle.assembly.specs.Assembly.{Head, head, headNext, Segment, segment, segmentNext, State, begin, next, clip, clipIn, tagIn, lastOf, clipsOf, tagsOf, headOf, clipCount, keptTags}
+use Rattle.assembly.specs.Assembly.{Head, head, headNext, Segment, segmentNext, State, begin, next, clipIn, tagIn, lastOf, clipsOf, tagsOf, headOf, clipCount, keptTags}
 use Rattle.assembly.proofs.Counts.{metTags, next-tags, count-clips}
 use Rattle.text.specs.Spans.{shownPart}
 use Rattle.records.specs.Same.{ShownType, ShownHead, headShown, shownHead, ShownTag, tagShown, shownTag, ShownMap, mapShown, shownMap, ShownClip, clipShown, shownClip}
@@ -145,7 +145,7 @@ keptSaid (saidState h s f gs) = f
 
 -- ---- a reading's
 abbrev pub shownSegment : List ℕ → Segment → Making
-shownSegment text (segment l t r d m) = making l (shownPart text t) r d (shownMap text m)
+shownSegment text s = making (s .length) (shownPart text (s .title)) (s .range) (s .discontinuity) (shownMap text (s .map))
 
 -- what is kept stays kept
 kept-next : (s : State) (t : Tag) → keptTags s ≤ keptTags (next s t)
@@ -191,11 +191,11 @@ module _ (text : List ℕ) where
   clip-says : (s : Segment) (t : ClipTag) (h : ShownHead) (f : ℕ) (gs : List ShownTag)
       → (nextSaid (saidState h (shownSegment text s) f gs) (clipSays text t) ≡ saidState h (shownSegment text (segmentNext s t)) f gs)
       × (clipSaid (saidState h (shownSegment text s) f gs) (clipSays text t) ≡ [])
-  clip-says (segment l t r d m) (timed (extinf (ns x) y)) h f gs = (refl, refl)
-  clip-says (segment l t r d m) (timed (extinf lengths.tooManyDigits y)) h f gs = (refl, refl)
-  clip-says (segment l t r d m) (ranged x) h f gs = (refl, refl)
-  clip-says (segment l t r d m) discontinuity h f gs = (refl, refl)
-  clip-says (segment l t r d m) (mapped (extMap u x y)) h f gs = (refl, refl)
+  clip-says s (timed (extinf (ns x) y)) h f gs = (refl, refl)
+  clip-says s (timed (extinf lengths.tooManyDigits y)) h f gs = (refl, refl)
+  clip-says s (ranged x) h f gs = (refl, refl)
+  clip-says s discontinuity h f gs = (refl, refl)
+  clip-says s (mapped (extMap u x y)) h f gs = (refl, refl)
 
   -- the tags since the URI before are those so far but those of the clips
   since : (pre : List ExtTag) (f p : ℕ) → length pre ≡ f + p → length (map (shownTag text) (drop f pre)) ≡ p
@@ -231,13 +231,7 @@ module _ (text : List ℕ) where
   clip-said pre xs s (ofClip t) k e l = sym (clip-says (s .segmentOf) t (shownHead text (s .headOf)) (s .countsOf .kept) (map (shownTag text) (drop (s .countsOf .kept) pre)) .1)
   clip-said pre xs s (unknown (ext name rest)) k e l = refl
   clip-said pre xs s (comment t) k e l = refl
-  clip-said pre xs s (uri u) k e l = go (s .segmentOf)
-    where
-      f : ℕ
-      f = s .countsOf .kept
-
-      go : (x : Segment) → map (shownClip text (take k (pre ++ xs))) (clip u x f (s .countsOf .since) ∷ []) ≡ clipSaid (saidState (shownHead text (s .headOf)) (shownSegment text x) f (map (shownTag text) (drop f pre))) (tagSays text (uri u))
-      go (segment n t r d m) = rw (run pre xs (s .countsOf .kept) (s .countsOf .since) k e l, since pre (s .countsOf .kept) (s .countsOf .since) e)
+  clip-said pre xs s (uri u) k e l = rw (run pre xs (s .countsOf .kept) (s .countsOf .since) k e l, since pre (s .countsOf .kept) (s .countsOf .since) e)
   clip-said pre xs s (leftOut x) k e l = refl
 
   pub clips-said : (pre : List ExtTag) (s : State) (ts : List Taken) (k : ℕ) → length pre ≡ metTags s → keptTags (lastOf s ts) ≤ k

@@ -5,13 +5,12 @@ use mathlib.Core.Bool.{Bool, true, false}
 use mathlib.Core.List.{List, [], _∷_, _++_, map as mapList, append-assoc}
 use mathlib.Core.Option.{Option, none, some}
 use lib.ListN.{length, take, drop}
-use Rattle.text.specs.Nom.{Span, bytes, begins, isMultispace}
-use Rattle.text.specs.Util.{ByteRange}
+use Rattle.text.specs.Nom.{bytes, begins, isMultispace}
 use Rattle.text.specs.BasicTags.{ExtTag, ext, PlaylistType, event, vod, other}
 use Rattle.text.specs.Lines.{unlines, AllFit}
 use Rattle.text.proofs.Ahead.{Stops}
 use Rattle.attributes.specs.ExtMap.{Map, extMap}
-use Rattle.assembly.specs.Assembly.{Head, segment, Clip, clip}
+use Rattle.assembly.specs.Assembly.{Head, Clip}
 use Rattle.media.specs.Calls.{stepsOf, stopOf}
 use Rattle.text.specs.Spans.{shown}
 use Rattle.playlist.specs.Lines.{Line, headerLine, independentSegmentsLine, iFramesOnlyLine, discontinuityLine, endListLine, versionLine, targetDurationLine, mediaSequenceLine, discontinuitySequenceLine, playlistTypeLine, byteRangeLine, extinfLine, uriLine, lineBytes, lineIf, lineWhere, lineUnlessZero, typeText, headLines, mapLineOf, tagLineOf, titleText, clipLines, clipsLines, endLines, playlistText}
@@ -107,18 +106,15 @@ asks-head text hd k xs =
     (asks-append (lineIf (λ t. playlistTypeLine (typeText text t)) (hd .type)) _ xs (asks-if _ (λ t. playlistTypeLine (typeText text t)) (λ _ _. tt) (hd .type) (if-too _ _ (type-clean text) (hd .type) (k .type)))
     (asks-where xs iFramesOnlyLine (λ _. tt) tt (hd .iFrames)))))))
 
--- ---- a clip: its parts, with its unknown tags
-pub record CleanSegment (text : List ℕ) (ts : List ExtTag) (u : Span) (l : ℕ) (t : Option Span) (r : Option ByteRange) (m : Option Map) : Type 0 where
-  pub map : If (λ x. Clean (mapLineOf text x)) m
-  pub range : If NumbersFit r
-  pub tags : All (λ x. Clean (tagLineOf text x)) ts
-  pub length : Clean (extinfLine l (titleText text t))
-  pub uri : Clean (uriLine (shown text u))
+-- ---- a clip: its parts, with those of the unknown tags that are its own
+pub record CleanClip (text : List ℕ) (all-tags : List ExtTag) (c : Clip) : Type 0 where
+  pub map : If (λ x. Clean (mapLineOf text x)) (c .segment .map)
+  pub range : If NumbersFit (c .segment .range)
+  pub tags : All (λ x. Clean (tagLineOf text x)) (take (c .tagCount) (drop (c .firstTag) all-tags))
+  pub length : Clean (extinfLine (c .segment .length) (titleText text (c .segment .title)))
+  pub uri : Clean (uriLine (shown text (c .uri)))
   -- "no URI begins with a comma"
-  pub no-comma : begins (bytes ",") (shown text u) ≡ false
-
-abbrev pub CleanClip : List ℕ → List ExtTag → Clip → Type 0
-CleanClip text tags (clip u (segment l t r d m) f n) = CleanSegment text (take n (drop f tags)) u l t r m
+  pub no-comma : begins (bytes ",") (shown text (c .uri)) ≡ false
 
 -- the URI stands behind its EXTINF
 asks-uri : (l : ℕ) (t u xs : List ℕ) → Clean (extinfLine l t) → Clean (uriLine u) → begins (bytes ",") u ≡ false → AllAsk (extinfLine l t ∷ uriLine u ∷ []) xs
@@ -138,12 +134,14 @@ module _ (text : List ℕ) where
   module _ (tags : List ExtTag) where
     asks-clip : (c : Clip) → CleanClip text tags c → (xs : List ℕ) → AllAsk (clipLines text tags c) xs
     unfolding clipLines
-    asks-clip (clip u (segment l t r d m) f n) k xs =
-        asks-append (lineIf (mapLineOf text) m) _ xs (asks-if _ (mapLineOf text) map-easy m (k .map))
-        (asks-append (lineIf byteRangeLine r) _ xs (asks-if _ byteRangeLine (λ _ _. tt) r (k .range))
-        (asks-append (lineWhere discontinuityLine d) _ xs (asks-where _ discontinuityLine (λ _. tt) tt d)
-        (asks-append (mapList (tagLineOf text) (take n (drop f tags))) _ xs (asks-tags (take n (drop f tags)) _ (k .tags))
-        (asks-uri l (titleText text t) (shown text u) xs (k .length) (k .uri) (k .no-comma)))))
+    asks-clip c k xs =
+        let s = c .segment in
+        let run = take (c .tagCount) (drop (c .firstTag) tags) in
+        asks-append (lineIf (mapLineOf text) (s .map)) _ xs (asks-if _ (mapLineOf text) map-easy (s .map) (k .map))
+        (asks-append (lineIf byteRangeLine (s .range)) _ xs (asks-if _ byteRangeLine (λ _ _. tt) (s .range) (k .range))
+        (asks-append (lineWhere discontinuityLine (s .discontinuity)) _ xs (asks-where _ discontinuityLine (λ _. tt) tt (s .discontinuity))
+        (asks-append (mapList (tagLineOf text) run) _ xs (asks-tags run _ (k .tags))
+        (asks-uri (s .length) (titleText text (s .title)) (shown text (c .uri)) xs (k .length) (k .uri) (k .no-comma)))))
 
     asks-clips : (cs : List Clip) → All (CleanClip text tags) cs → (xs : List ℕ) → AllAsk (clipsLines text tags cs) xs
     unfolding clipsLines AllFit All

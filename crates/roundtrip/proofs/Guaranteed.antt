@@ -5,14 +5,12 @@ use mathlib.Core.Option.{Option}
 use native.Mathlib.Omega.{arith}
 use lib.ListN.{take}
 use Rattle.text.specs.Nom.{Span, bytes, isNoneOf, isMultispace}
-use Rattle.text.specs.Util.{ByteRange}
 use Rattle.text.specs.BasicTags.{ExtTag, PlaylistType}
 use Rattle.text.proofs.Ahead.{Stops}
-use Rattle.attributes.specs.ExtMap.{Map}
 use Rattle.lengths.specs.Duration.{ns, tooManyDigits, extinf}
 use Rattle.tables.specs.Layout.{lengthLimit}
 use Rattle.tags.specs.Tags.{HeadTag, version, targetDuration, mediaSequence, discontinuitySequence, typed, iFramesOnly, independentSegments, endList, ClipTag, timed, ranged, discontinuity, mapped, Tag, ofHead, ofClip, unknown, comment, uri, leftOut, Taken, took}
-use Rattle.assembly.specs.Assembly.{Head, headNext, Segment, segment, segmentNext, State, begin, next, Clip, clip, clipIn, tagIn, lastOf, clipsOf, tagsOf, headOf, keptTags}
+use Rattle.assembly.specs.Assembly.{Head, headNext, Segment, segmentNext, State, begin, next, Clip, clipIn, tagIn, lastOf, clipsOf, tagsOf, headOf, keptTags}
 use Rattle.media.specs.Calls.{stepsOf, clipsRead, tagsRead}
 use Rattle.text.specs.Spans.{shown}
 use Rattle.records.proofs.Back.{All, all-append}
@@ -42,20 +40,17 @@ module _ (text : List ℕ) where
   SoundHeadOf hd = SoundParts (hd .version) (hd .target) (hd .sequence) (hd .discontinuities) (hd .type)
 
   -- ---- the clip in the making, and one that a URI has ended
-  pub record SoundMaking (l : ℕ) (t : Option Span) (r : Option ByteRange) (m : Option Map) : Type 0 where
-    pub length : l < lengthLimit
-    pub title : If (Shows (isNoneOf (bytes "\r\n,")) text) t
-    pub range : If NumbersFit r
-    pub map : If (SoundMap text) m
-
-  abbrev pub SoundSegment : Segment → Type 0
-  SoundSegment (segment l t r d m) = SoundMaking l t r m
+  pub record SoundSegment (s : Segment) : Type 0 where
+    pub length : s .length < lengthLimit
+    pub title : If (Shows (isNoneOf (bytes "\r\n,")) text) (s .title)
+    pub range : If NumbersFit (s .range)
+    pub map : If (SoundMap text) (s .map)
 
   abbrev pub SoundUri : Span → Type 0
   SoundUri u = Shows (isNoneOf (bytes "\r\n")) text u × Stops isMultispace (shown text u)
 
   abbrev pub SoundClipOf : Clip → Type 0
-  SoundClipOf (clip u s f n) = SoundUri u × SoundSegment s
+  SoundClipOf c = SoundUri (c .uri) × SoundSegment (c .segment)
 
   -- ---- an unknown tag, with the place where it was read
   abbrev pub SoundTagOf : ExtTag → Type 0
@@ -82,11 +77,11 @@ module _ (text : List ℕ) where
   head-next hd endList h k = h
 
   segment-next : (s : Segment) (t : ClipTag) → SoundSegment s → SoundClip text t → SoundSegment (segmentNext s t)
-  segment-next (segment l t r d m) (timed (extinf (ns x) y)) h k = record { length = k .0; title = k .1; range = h .range; map = h .map }
-  segment-next (segment l t r d m) (timed (extinf tooManyDigits y)) h k = h
-  segment-next (segment l t r d m) (ranged x) h k = record { length = h .length; title = h .title; range = k; map = h .map }
-  segment-next (segment l t r d m) discontinuity h k = h
-  segment-next (segment l t r d m) (mapped x) h k = record { length = h .length; title = h .title; range = h .range; map = k }
+  segment-next s (timed (extinf (ns x) y)) h k = record { length = k .0; title = k .1; range = h .range; map = h .map }
+  segment-next s (timed (extinf tooManyDigits y)) h k = h
+  segment-next s (ranged x) h k = record { length = h .length; title = h .title; range = k; map = h .map }
+  segment-next s discontinuity h k = record { length = h .length; title = h .title; range = h .range; map = h .map }
+  segment-next s (mapped x) h k = record { length = h .length; title = h .title; range = h .range; map = k }
 
   state-next : (s : State) (at : ℕ) (t : Tag) → SoundState s → Sound text at t → SoundState (next s t)
   unfolding next

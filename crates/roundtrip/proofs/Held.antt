@@ -9,7 +9,7 @@ use lib.ListN.{length}
 use Rattle.text.specs.Nom.{Span, span, bytes, isNoneOf}
 use Rattle.text.specs.BasicTags.{ExtTag, ext}
 use Rattle.tables.specs.Refusal.{given}
-use Rattle.assembly.specs.Assembly.{Head, segment, Clip, clip, begin, lastOf, clipCount, keptTags}
+use Rattle.assembly.specs.Assembly.{Head, Clip, begin, lastOf, clipCount, keptTags}
 use Rattle.assembly.proofs.Counts.{count-clips}
 use Rattle.media.specs.Calls.{stepsOf, read, parseMediaPlaylist, clipsRead, tagsRead}
 use Rattle.records.specs.Records.{clipsAt, tagsAt}
@@ -31,7 +31,7 @@ module _ (text : List ℕ) where
   clips-real : (cs : List Clip) → All (SoundClipOf text) cs → All RealClip cs
   unfolding All
   clips-real [] h = tt
-  clips-real (clip u (segment l t r d m) f n ∷ cs) h = (part-real (isNoneOf (bytes "\r\n,")) t (h .0 .1 .title), clips-real cs (h .1))
+  clips-real (c ∷ cs) h = (part-real (isNoneOf (bytes "\r\n,")) (c .segment .title) (h .0 .1 .title), clips-real cs (h .1))
 
   tags-real : (ts : List ExtTag) → All (SoundTagOf text) ts → All RealTag ts
   unfolding All

@@ -17,14 +17,14 @@ use Rattle.tables.specs.Layout as layout
 use Rattle.tables.specs.Table.{clipsFit, tagsFit, clipWord, tagWord, hasFlag}
 use Rattle.tables.proofs.Every.{every-of}
 use Rattle.tables.proofs.Records.{words-fit}
-use Rattle.assembly.specs.Assembly.{Head, segment, Clip, clip}
+use Rattle.assembly.specs.Assembly.{Head, Clip}
 use Rattle.media.specs.Calls.{clipsRead, tagsRead}
 use Rattle.assembly.specs.Words.{partWords, rangeWords, mapWords, flagsOf, clipWordsOf, tagWordsOf, clipsWords, tagsWords}
 use Rattle.assembly.proofs.Records.{clips-words-length, tags-words-length}
 use Rattle.assembly.proofs.ReadBack.{clip-back, tag-back}
 use Rattle.text.specs.Spans.{spanFits}
 use Rattle.rule9.specs.Rule9.{typeFits, headFits, flagsKeep, zeroWithout, plainKeep, rangeKeeps, mapKeeps, clipKeeps, tagKeeps, tagsUpTo, runsAdjoin, keepsRule}
-use Rattle.records.proofs.Back.{All, map-six, part-two, range-two}
+use Rattle.records.proofs.Back.{All, span-two, part-two, range-two, map-six}
 use Rattle.text.proofs.Laws.{and-left, and-right}
 use Rattle.roundtrip.proofs.Gives.{If, Shows}
 use Rattle.roundtrip.proofs.Values.{SoundType, SoundMap}
@@ -169,14 +169,18 @@ module _ (text : List ℕ) where
 
   words-keep : (c : Clip) → SoundClipOf text c → keepsFrom (λ i. getD (clipWordsOf c) i 0) ≡ true
   unfolding clipWordsOf
-  words-keep (clip (span a b) (segment l t r d m) f n) h =
+  words-keep c h =
+      let s = c .segment in
+      let r = s .range in
+      let d = s .discontinuity in
+      let m = s .map in
       let j =
       joined (flagsOf r d m) (getD (rangeWords r) 0 0) (getD (rangeWords r) 1 0) (getD (mapWords m) 0 0) (getD (mapWords m) 1 0) (getD (mapWords m) 2 0) (getD (mapWords m) 3 0)
       (getD (mapWords m) 4 0) (getD (mapWords m) 5 0) (shape-keeps r d m) (map-fits m (h .1 .map) .0) (map-fits m (h .1 .map) .1) in
-      let u = shows-fits text (isNoneOf (bytes "\r\n")) a b (h .0 .0) in
-      let s = part-fits text (isNoneOf (bytes "\r\n,")) t (h .1 .title) in
-      rw (part-two t, range-two r, map-six m)
-      (rw (u, lt-ltb l layout.lengthLimit (h .1 .length), eq-eqb (secondsBits l) (secondsBits l) refl, s) j)
+      let u = part-fits text (isNoneOf (bytes "\r\n")) (some (c .uri)) (h .0 .0) in
+      let t = part-fits text (isNoneOf (bytes "\r\n,")) (s .title) (h .1 .title) in
+      rw (span-two (c .uri), part-two (s .title), range-two r, map-six m)
+      (rw (u, lt-ltb (s .length) layout.lengthLimit (h .1 .length), eq-eqb (secondsBits (s .length)) (secondsBits (s .length)) refl, t) j)
 
   clip-keeps-here : (before after : List Clip) (c : Clip) (rest : List ℕ) → SoundClipOf text c → clipKeeps text (clipsWords (before ++ (c ∷ after)) ++ rest) (length before) ≡ true
   unfolding clipKeeps plainKeep rangeKeeps mapKeeps
@@ -207,41 +211,35 @@ module _ (text : List ℕ) where
       moved x (λ xs j. tagKeeps text (tagsWords xs ++ rest) j) ∙ tag-keeps-here (x .before) (x .after) (x .here) rest (x .holds)
 
 -- ---- the runs of unknown tags
-abbrev firstOf : Clip → ℕ
-firstOf (clip u s f n) = f
-
-abbrev manyOf : Clip → ℕ
-manyOf (clip u s f n) = n
-
 -- where the run of clip k begins, from f on
 runAt : ℕ → List Clip → ℕ → ℕ
 runAt f [] k = f
 runAt f (c ∷ cs) zero = f
-runAt f (c ∷ cs) (suc k) = runAt (f + manyOf c) cs k
+runAt f (c ∷ cs) (suc k) = runAt (f + c .tagCount) cs k
 
-run-next : (f : ℕ) (before after : List Clip) (c : Clip) → runAt f (before ++ (c ∷ after)) (suc (length before)) ≡ runAt f (before ++ (c ∷ after)) (length before) + manyOf c
+run-next : (f : ℕ) (before after : List Clip) (c : Clip) → runAt f (before ++ (c ∷ after)) (suc (length before)) ≡ runAt f (before ++ (c ∷ after)) (length before) + c .tagCount
 unfolding runAt
 run-next f [] [] c = refl
 run-next f [] (d ∷ after) c = refl
-run-next f (b ∷ before) after c = run-next (f + manyOf b) before after c
+run-next f (b ∷ before) after c = run-next (f + b .tagCount) before after c
 
-run-first : (f total : ℕ) (before after : List Clip) (c : Clip) → Adjoin f (before ++ (c ∷ after)) total → firstOf c ≡ runAt f (before ++ (c ∷ after)) (length before)
+run-first : (f total : ℕ) (before after : List Clip) (c : Clip) → Adjoin f (before ++ (c ∷ after)) total → c .firstTag ≡ runAt f (before ++ (c ∷ after)) (length before)
 unfolding runAt
-run-first f total [] after (clip u s g n) a = a .0
-run-first f total (clip u s g n ∷ before) after c a = run-first (f + n) total before after c (a .1)
+run-first f total [] after c a = a .0
+run-first f total (b ∷ before) after c a = run-first (f + b .tagCount) total before after c (a .1)
 
 run-all : (f total : ℕ) (cs : List Clip) → Adjoin f cs total → runAt f cs (length cs) ≡ total
 unfolding runAt
 run-all f total [] a = a
-run-all f total (clip u s g n ∷ cs) a = run-all (f + n) total cs (a .1)
+run-all f total (c ∷ cs) a = run-all (f + c .tagCount) total cs (a .1)
 
-first-word : (c : Clip) → getD (clipWordsOf c) layout.firstTag 0 ≡ firstOf c
+first-word : (c : Clip) → getD (clipWordsOf c) layout.firstTag 0 ≡ c .firstTag
 unfolding clipWordsOf
-first-word (clip (span a b) (segment l t r d m) f n) = rw (part-two t, range-two r, map-six m)
+first-word c = let s = c .segment in rw (span-two (c .uri), part-two (s .title), range-two (s .range), map-six (s .map))
 
-many-word : (c : Clip) → getD (clipWordsOf c) layout.tagCount 0 ≡ manyOf c
+many-word : (c : Clip) → getD (clipWordsOf c) layout.tagCount 0 ≡ c .tagCount
 unfolding clipWordsOf
-many-word (clip (span a b) (segment l t r d m) f n) = rw (part-two t, range-two r, map-six m)
+many-word c = let s = c .segment in rw (span-two (c .uri), part-two (s .title), range-two (s .range), map-six (s .map))
 
 module _ (cs : List Clip) (rest : List ℕ) where
   abbrev table : List ℕ
@@ -271,7 +269,7 @@ module _ (cs : List Clip) (rest : List ℕ) where
       let n = moved x (λ xs j. runAt 0 xs (suc j)) ∙ run-next 0 (x .before) (x .after) (x .here) in
       ap (λ (a : ℕ). a + clipWord table k layout.tagCount) (upto k (omega (arith, l)))
       ∙ ap (λ (b : ℕ). runAt 0 cs k + b) w
-      ∙ ap (λ (a : ℕ). a + manyOf (x .here)) (moved x (runAt 0))
+      ∙ ap (λ (a : ℕ). a + x .here .tagCount) (moved x (runAt 0))
       ∙ sym n
 
   first-there : (total : ℕ) → Adjoin 0 cs total → (k : ℕ) → k < length cs → eqb (clipWord table k layout.firstTag) (tagsUpTo table k) ≡ true

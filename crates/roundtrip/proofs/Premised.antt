@@ -11,7 +11,7 @@ use Rattle.text.specs.BasicTags.{ExtTag, PlaylistType, event, vod, other}
 use Rattle.text.proofs.Laws.{and-left, and-right}
 use Rattle.text.proofs.Ahead.{Every}
 use Rattle.attributes.specs.ExtMap.{Map, extMap}
-use Rattle.assembly.specs.Assembly.{Head, segment, Clip, clip}
+use Rattle.assembly.specs.Assembly.{Head, Clip}
 use Rattle.text.specs.Spans.{shown}
 use Rattle.playlist.specs.Lines.{mapLineOf, tagLineOf, titleText}
 use Rattle.records.proofs.Back.{All}
@@ -73,7 +73,7 @@ module _ (text : List ℕ) where
   pub titles-some : (cs : List Clip) → All (SoundClipOf text) cs → TitlesSome text cs
   unfolding All
   titles-some [] h = tt
-  titles-some (clip u (segment l t r d m) f n ∷ cs) h = (title-some t (h .0 .1 .title), titles-some cs (h .1))
+  titles-some (c ∷ cs) h = (title-some (c .segment .title) (h .0 .1 .title), titles-some cs (h .1))
 
   title-every : (t : Option Span) → If (Shows (isNoneOf (bytes "\r\n,")) text) t → Every (isNoneOf (bytes "\r\n,")) (titleText text t)
   unfolding Every
@@ -86,14 +86,15 @@ module _ (text : List ℕ) where
 
   module _ (tags : List ExtTag) (clean-tags : All (λ x. Clean (tagLineOf text x)) tags) where
     clip-clean : (c : Clip) → SoundClipOf text c → plainUri text c ≡ true → CleanClip text tags c
-    clip-clean (clip u (segment l t r d m) f n) h e =
+    clip-clean c h e =
+        let u = c .uri in
         let mark = begins (bytes "#") (shown text u) in
         let comma = begins (bytes ",") (shown text u) in
         record {
-          map = map-clean m (h .1 .map);
+          map = map-clean (c .segment .map) (h .1 .map);
           range = h .1 .range;
-          tags = all-take (λ x. Clean (tagLineOf text x)) n (drop f tags) (all-drop (λ x. Clean (tagLineOf text x)) f tags clean-tags);
-          length = (h .1 .length, title-every t (h .1 .title));
+          tags = all-take (λ x. Clean (tagLineOf text x)) (c .tagCount) (drop (c .firstTag) tags) (all-drop (λ x. Clean (tagLineOf text x)) (c .firstTag) tags clean-tags);
+          length = (h .1 .length, title-every (c .segment .title) (h .1 .title));
           uri = (some-shown (isNoneOf (bytes "\r\n")) text u (h .0 .0), (not-true mark (and-left (not mark) (not comma) e), (h .0 .1, passes-shown (isNoneOf (bytes "\r\n")) text u (h .0 .0))));
           no-comma = not-true comma (and-right (not mark) (not comma) e);
         }

@@ -20,7 +20,7 @@ use Rattle.tables.specs.Layout.{second}
 use Rattle.digits.specs.Digits.{numberText, fractionBy, fractionText, lengthText}
 use Rattle.digits.proofs.Number.{number-digits}
 use Rattle.digits.proofs.Length.{fraction-digits}
-use Rattle.assembly.specs.Assembly.{Head, segment, Clip, clip}
+use Rattle.assembly.specs.Assembly.{Head, Clip}
 use Rattle.text.specs.Spans.{shown, shownPart}
 use Rattle.playlist.specs.Lines.{Line, headerLine, independentSegmentsLine, iFramesOnlyLine, discontinuityLine, endListLine, versionLine, targetDurationLine, mediaSequenceLine, discontinuitySequenceLine, playlistTypeLine, mapLine, byteRangeLine, unknownLine, extinfLine, uriLine, rangeBytes, mapRangeBytes, restBytes, lineBytes, lineIf, lineWhere, lineUnlessZero, typeText, headLines, mapLineOf, tagLineOf, titleText, clipLines, clipsLines, endLines, playlistLines, playlistText}
 use Rattle.records.proofs.Back.{All, all-append}
@@ -193,12 +193,15 @@ module _ (Valid : List ℕ → Type 0) (valid-append : (a b : List ℕ) → Vali
     module _ (tags : List ExtTag) (sound-tags : All (SoundTagOf text) tags) where
       clip-valid : (c : Clip) → SoundClipOf text c → All ValidParts (clipLines text tags c)
       unfolding clipLines
-      clip-valid (clip u (segment l t r d m) f n) h =
-          all-append ValidParts (lineIf (mapLineOf text) m) _ (if-line (mapLineOf text) m (map-valid m (h .1 .map)))
-          (all-append ValidParts (lineIf byteRangeLine r) _ (if-line byteRangeLine r (range-if r))
-          (all-append ValidParts (lineWhere discontinuityLine d) _ (where-line discontinuityLine tt d)
-          (all-append ValidParts (map (tagLineOf text) (take n (drop f tags))) _ (tags-valid (take n (drop f tags)) (all-take (SoundTagOf text) n (drop f tags) (all-drop (SoundTagOf text) f tags sound-tags)))
-          (all-two (extinfLine l (titleText text t)) (uriLine (shown text u)) (title-valid t (h .1 .title)) (shown-valid (isNoneOf (bytes "\r\n")) u (h .0 .0))))))
+      clip-valid c h =
+          let s = c .segment in
+          let behind = drop (c .firstTag) tags in
+          let run = take (c .tagCount) behind in
+          all-append ValidParts (lineIf (mapLineOf text) (s .map)) _ (if-line (mapLineOf text) (s .map) (map-valid (s .map) (h .1 .map)))
+          (all-append ValidParts (lineIf byteRangeLine (s .range)) _ (if-line byteRangeLine (s .range) (range-if (s .range)))
+          (all-append ValidParts (lineWhere discontinuityLine (s .discontinuity)) _ (where-line discontinuityLine tt (s .discontinuity))
+          (all-append ValidParts (map (tagLineOf text) run) _ (tags-valid run (all-take (SoundTagOf text) (c .tagCount) behind (all-drop (SoundTagOf text) (c .firstTag) tags sound-tags)))
+          (all-two (extinfLine (s .length) (titleText text (s .title))) (uriLine (shown text (c .uri))) (title-valid (s .title) (h .1 .title)) (shown-valid (isNoneOf (bytes "\r\n")) (c .uri) (h .0 .0))))))
 
       clips-valid : (cs : List Clip) → All (SoundClipOf text) cs → All ValidParts (clipsLines text tags cs)
       unfolding clipsLines All

@@ -13,7 +13,7 @@ use Rattle.text.specs.Util.{ByteRange}
 use Rattle.text.specs.BasicTags.{ExtTag, ext, PlaylistType, event, vod, other}
 use Rattle.attributes.specs.ExtMap.{Map, extMap}
 use Rattle.tags.specs.Tags.{Tag, ofHead, ofClip, unknown, comment, uri, leftOut, Taken, took}
-use Rattle.assembly.specs.Assembly.{Head, head, segment, State, begin, next, Clip, clip, clipIn, lastOf, clipsOf, tagsOf, keptTags}
+use Rattle.assembly.specs.Assembly.{Head, head, State, begin, next, Clip, clipIn, lastOf, clipsOf, tagsOf, keptTags}
 use Rattle.assembly.proofs.Counts.{kept}
 use Rattle.text.specs.Spans.{shown, shownPart, sameAll}
 use Rattle.records.specs.Same.{otherShown, shownTypeIf, ShownHead, headShown, shownHead, ShownTag, shownTag, ShownMap, shownMap, ShownClip, clipShown, shownClip}
@@ -25,7 +25,7 @@ use Rattle.roundtrip.proofs.Assembled.{Making, making, SaidState, saidS
 -- "unknown runs adjoin from 0 and use all tags": from tag f on, these clips' runs use the tags up to `total`
 abbrev pub Adjoin : ℕ → List Clip → ℕ → Type 0
 Adjoin f [] total = f ≡ total
-Adjoin f (clip u s g n ∷ cs) total = (g ≡ f) × Adjoin (f + n) cs total
+Adjoin f (c ∷ cs) total = (c .firstTag ≡ f) × Adjoin (f + c .tagCount) cs total
 
 module _ (text : List ℕ) where
   -- a title that is there shows at least one byte: one of none would say the same as no title
@@ -35,7 +35,7 @@ module _ (text : List ℕ) where
 
   abbrev pub TitlesSome : List Clip → Type 0
   TitlesSome [] = Unit {0}
-  TitlesSome (clip u (segment l t r d m) f n ∷ cs) = TitleSome t × TitlesSome cs
+  TitlesSome (c ∷ cs) = TitleSome (c .segment .title) × TitlesSome cs
 
   -- another type's text says another type
   abbrev pub OtherSaid : Option PlaylistType → Type 0
@@ -137,7 +137,7 @@ module _ (text : List ℕ) where
 -- ---- the clips
 pub adjoin-all : (f : ℕ) (cs : List Clip) (total : ℕ) → Adjoin f cs total → f ≤ total
 adjoin-all f [] total h = omega arith
-adjoin-all f (clip u s g n ∷ cs) total h = omega (arith, adjoin-all (f + n) cs total (h .1))
+adjoin-all f (c ∷ cs) total h = omega (arith, adjoin-all (f + c .tagCount) cs total (h .1))
 
 module _ (text : List ℕ) where
   title-says : (t : Option Span) → TitleSome text t → titleSays (titleText text t) ≡ shownPart text t
@@ -169,25 +169,30 @@ module _ (text : List ℕ) where
   tells-uri h u b l t r d m f n gs e k = record { last = rw k; clips = rw (e, k) }
 
   -- a clip's lines, from where the clip before ended
-  tells-clip : (h : ShownHead) (u : Span) (l : ℕ) (t : Option Span) (r : Option ByteRange) (d : Bool) (m : Option Map) (f n : ℕ) (tags : List ExtTag)
-      → TitleSome text t → f + n ≤ length tags
-      → Tells (saidState h emptyMaking f []) (clipLines text tags (clip u (segment l t r d m) f n)) (shownClip text tags (clip u (segment l t r d m) f n) ∷ []) (saidState h emptyMaking (f + n) [])
+  tells-clip : (h : ShownHead) (c : Clip) (tags : List ExtTag)
+      → TitleSome text (c .segment .title) → c .firstTag + c .tagCount ≤ length tags
+      → Tells (saidState h emptyMaking (c .firstTag) []) (clipLines text tags c) (shownClip text tags c ∷ []) (saidState h emptyMaking (c .firstTag + c .tagCount) [])
   unfolding clipLines
-  tells-clip h u l t r d m f n tags e fits =
-      let run = take n (drop f tags) in
-      let k : length (map (shownTag text) run) ≡ n = length-map run (shownTag text) ∙ length-take-le n (drop f tags) (rw length-drop (omega arith)) in
-      tells-append (tells-map m h f)
-      (tells-append (tells-if byteRangeLine (λ x. saidState h (making 0 none x false (shownMap text m)) f []) (λ x. refl) (λ x. refl) r)
-      (tells-append (tells-where discontinuityLine (λ x. saidState h (making 0 none r x (shownMap text m)) f []) refl refl d)
-      (tells-append (tells-tags run h (making 0 none r d (shownMap text m)) f [])
-      (tells-uri h (shown text u) (titleText text t) l (shownPart text t) r d (shownMap text m) f n (map (shownTag text) run) (title-says t e) k))))
+  tells-clip h c tags e fits =
+      let s = c .segment in
+      let f = c .firstTag in
+      let m = shownMap text (s .map) in
+      let run = take (c .tagCount) (drop f tags) in
+      let k : length (map (shownTag text) run) ≡ c .tagCount = length-map run (shownTag text) ∙ length-take-le (c .tagCount) (drop f tags) (rw length-drop (omega arith)) in
+      tells-append (tells-map (s .map) h f)
+      (tells-append (tells-if byteRangeLine (λ x. saidState h (making 0 none x false m) f []) (λ x. refl) (λ x. refl) (s .range))
+      (tells-append (tells-where discontinuityLine (λ x. saidState h (making 0 none (s .range) x m) f []) refl refl (s .discontinuity))
+      (tells-append (tells-tags run h (making 0 none (s .range) (s .discontinuity) m) f [])
+      (tells-uri h (shown text (c .uri)) (titleText text (s .title)) (s .length) (shownPart text (s .title)) (s .range) (s .discontinuity) m f (c .tagCount) (map (shownTag text) run) (title-says (s .title) e) k))))
 
   tells-clips : (h : ShownHead) (tags : List ExtTag) (f : ℕ) (cs : List Clip) → TitlesSome text cs → Adjoin f cs (length tags)
       → Tells (saidState h emptyMaking f []) (clipsLines text tags cs) (map (shownClip text tags) cs) (saidState h emptyMaking (length tags) [])
   unfolding clipsLines lastSaid clipsSaid
   tells-clips h tags f [] e a = record { last = rw a; clips = refl }
-  tells-clips h tags f (clip u (segment l t r d m) g n ∷ cs) e a =
-      rw (a .0) (tells-append (tells-clip h u l t r d m f n tags (e .0) (adjoin-all (f + n) cs (length tags) (a .1))) (tells-clips h tags (f + n) cs (e .1) (a .1)))
+  tells-clips h tags f (c ∷ cs) e a =
+      let next = c .firstTag + c .tagCount in
+      let b : Adjoin next cs (length tags) = rw (a .0) (a .1) in
+      rw (← (a .0)) (tells-append (tells-clip h c tags (e .0) (adjoin-all next cs (length tags) b)) (tells-clips h tags next cs (e .1) b))
 
 -- ---- the whole
 tells-end : (h : Head) (text : List ℕ) (f : ℕ) → Tells (saidState (shownHead text (unended h)) emptyMaking f []) (endLines h) [] (saidState (shownHead text h) emptyMaking f [])

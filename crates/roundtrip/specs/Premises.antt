@@ -4,7 +4,7 @@ use mathlib.Core.Bool.{Bool, true, not, _&&_}
 use mathlib.Core.List.{List, [], _∷_}
 use Rattle.text.specs.Nom.{bytes, begins}
 use Rattle.text.specs.BasicTags.{ExtTag, ext}
-use Rattle.assembly.specs.Assembly.{Clip, clip}
+use Rattle.assembly.specs.Assembly.{Clip}
 use Rattle.text.specs.Spans.{shown, sameBytes}
 
 unfoldable pub all : {A : Type 0} → (A → Bool) → List A → Bool
@@ -13,7 +13,7 @@ all p (a ∷ xs) = p a && all p xs
 
 -- "no URI begins with `#` or a comma"
 abbrev pub plainUri : List ℕ → Clip → Bool
-plainUri text (clip u s f n) = not (begins (bytes "#") (shown text u)) && not (begins (bytes ",") (shown text u))
+plainUri text c = let u = c .uri in not (begins (bytes "#") (shown text u)) && not (begins (bytes ",") (shown text u))
 
 unfoldable pub plainUris : List ℕ → List Clip → Bool
 plainUris text clips = all (plainUri text) clips

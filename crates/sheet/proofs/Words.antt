@@ -8,16 +8,17 @@ use native.Mathlib.Omega.{arith}
 use lib.Dec.{leb}
 use lib.ListN.{length, getD, length-append}
 use borrow.Author.Tests.{le-leb, leb-true, leb-false, lt-ltb}
-use Rattle.text.specs.Nom.{span}
+use Rattle.text.specs.Nom.{Span, span, bytes, isNoneOf}
 use Rattle.text.specs.Spans.{shown}
 use Rattle.tables.specs.Layout.{clipWords, lengthLimit, uriStart, uriEnd, lengthNs}
 use Rattle.tables.specs.Table.{every, fits, clipWord}
 use Rattle.tables.specs.Refusal.{refused, given, orRefuse, totalTooLong}
-use Rattle.assembly.specs.Assembly.{segment, Clip, clip}
-use Rattle.assembly.specs.Words.{clipWordsOf, clipsWords}
+use Rattle.assembly.specs.Assembly.{Clip}
+use Rattle.assembly.specs.Words.{spanWords, clipWordsOf, clipsWords}
 use Rattle.assembly.proofs.Records.{clips-words-length}
 use Rattle.assembly.proofs.ReadBack.{clip-back}
-use Rattle.records.proofs.Back.{All}
+use Rattle.records.proofs.Back.{All, span-two}
+use Rattle.roundtrip.proofs.Gives.{Shows}
 use Rattle.roundtrip.proofs.Guaranteed.{SoundClipOf}
 use Rattle.clock.specs.Clock.{largestTotal, lengthOf, sumLengths, keepsRule, momentOf, tickOf}
 use Rattle.clock.specs.Calls.{atRate, inTurn}
@@ -27,21 +28,24 @@ use Rattle.clock.proofs.Calls.{InTurn, timed-11}
 use Rattle.starts.proofs.Pass.{cursorAt, rowAt, pass-opens, pass-steps}
 use Rattle.output.specs.Waiting.{part}
 use Rattle.output.proofs.Laws.{part-there}
-use Rattle.sheet.specs.Sheet.{sheetRate, headerLine, clipLine, totalLine, uriOf, nsOf, clipLines, totalOf, sheetOf}
+use Rattle.sheet.specs.Sheet.{sheetRate, headerLine, clipLine, totalLine, nsOf, clipLines, totalOf, sheetOf}
 use Rattle.sheet.specs.Inside.Pass.{rowLine, passLines, passSheet, openedSheet, wordsSheet}
 
 -- ---- a clip's own words
 length-word : (c : Clip) → getD (clipWordsOf c) lengthNs 0 ≡ nsOf c
 unfolding clipWordsOf
-length-word (clip (span a b) (segment l t r d m) f n) = refl
+length-word c = rw (span-two (c .uri))
 
 module _ (text : List ℕ) where
-  uri-words : (c : Clip) → SoundClipOf text c → part text (getD (clipWordsOf c) uriStart 0) (getD (clipWordsOf c) uriEnd 0) ≡ shown text (uriOf c)
+  uri-words : (c : Clip) → SoundClipOf text c → part text (getD (clipWordsOf c) uriStart 0) (getD (clipWordsOf c) uriEnd 0) ≡ shown text (c .uri)
   unfolding clipWordsOf
-  uri-words (clip (span a b) (segment l t r d m) f n) h = sym (part-there text a b (h .0 .0 .within) (omega (arith, h .0 .0 .long)))
+  uri-words c h = rw (span-two (c .uri)) (go (c .uri) (h .0 .0))
+    where
+      go : (u : Span) → Shows (isNoneOf (bytes "\r\n")) text u → part text (getD (spanWords u) 0 0) (getD (spanWords u) 1 0) ≡ shown text u
+      go (span a b) s = sym (part-there text a b (s .within) (omega (arith, s .long)))
 
   ns-below : (c : Clip) → SoundClipOf text c → nsOf c < lengthLimit
-  ns-below (clip u (segment l t r d m) f n) h = h .1 .length
+  ns-below c h = h .1 .length
 
 module _ (text rest : List ℕ) (all : List Clip) where
   abbrev words : List ℕ
@@ -73,7 +77,7 @@ module _ (text rest : List ℕ) (all : List Clip) where
     length-from : lengthOf words k ≡ nsOf c
     length-from = word-from lengthNs (omega arith) ∙ length-word c
 
-    uri-from : SoundClipOf text c → part text (clipWord words k uriStart) (clipWord words k uriEnd) ≡ shown text (uriOf c)
+    uri-from : SoundClipOf text c → part text (clipWord words k uriStart) (clipWord words k uriEnd) ≡ shown text (c .uri)
     uri-from s = rw (word-from uriStart (omega arith), word-from uriEnd (omega arith)) (uri-words text c s)
 
     sum-from : sumLengths words (suc k) ≡ sumLengths words k + nsOf c
@@ -117,7 +121,7 @@ module _ (text rest : List ℕ) (all : List Clip) where
     first-turn k = omega arith
 
     row-line : (k : ℕ) (c : Clip) (clips : List Clip) → From k (c ∷ clips) → SoundClipOf text c
-        → rowLine text words (rowAt words n sheetRate 0 k) ≡ clipLine k (sumLengths words k) (nsOf c) (tickOf (sumLengths words k) sheetRate) (shown text (uriOf c))
+        → rowLine text words (rowAt words n sheetRate 0 k) ≡ clipLine k (sumLengths words k) (nsOf c) (tickOf (sumLengths words k) sheetRate) (shown text (c .uri))
     unfolding rowLine
     row-line k c clips h s = rw (first-turn k, length-from k c clips h, uri-from k c clips h s)
 

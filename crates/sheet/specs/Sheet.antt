@@ -4,12 +4,12 @@ use mathlib.Core.Bool.{Bool, cond}
 use mathlib.Core.List.{List, [], _∷_, _++_}
 use lib.Dec.{leb}
 use lib.ListN.{length}
-use Rattle.text.specs.Nom.{Span, bytes}
+use Rattle.text.specs.Nom.{bytes}
 use Rattle.text.specs.Spans.{shown}
 use Rattle.digits.specs.Digits.{numberText}
 use Rattle.tables.specs.Layout.{clipWords, tagWords}
 use Rattle.tables.specs.Refusal.{Answer, refused, given, orRefuse, numberOf, textTooLong, totalTooLong}
-use Rattle.assembly.specs.Assembly.{segment, Clip, clip}
+use Rattle.assembly.specs.Assembly.{Clip}
 use Rattle.media.specs.Calls.{Read, parseMediaPlaylist, clipsRead}
 use Rattle.clock.specs.Clock.{largestTotal, tickOf}
 
@@ -52,16 +52,13 @@ unfoldable pub totalLine : ℕ → List ℕ
 totalLine ns = bytes "total\t" ++ numberLine ns
 
 -- ---- the clips that were read
-abbrev pub uriOf : Clip → Span
-uriOf (clip u s f n) = u
-
 abbrev pub nsOf : Clip → ℕ
-nsOf (clip u (segment l t r d m) f n) = l
+nsOf c = c .segment .length
 
 -- the first of these has this number and this start, and each other one starts where the one before it ends; "start tick of turn 0", where a moment is the start itself
 unfoldable pub clipLines : List ℕ → ℕ → ℕ → List Clip → List ℕ
 clipLines text number start [] = []
-clipLines text number start (c ∷ clips) = clipLine number start (nsOf c) (tickOf start sheetRate) (shown text (uriOf c)) ++ clipLines text (suc number) (start + nsOf c) clips
+clipLines text number start (c ∷ clips) = clipLine number start (nsOf c) (tickOf start sheetRate) (shown text (c .uri)) ++ clipLines text (suc number) (start + nsOf c) clips
 
 unfoldable pub totalOf : List Clip → ℕ
 totalOf [] = 0

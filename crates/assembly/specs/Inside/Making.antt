@@ -9,7 +9,7 @@ use Rattle.lengths.specs.Duration.{ns, tooManyDigits, extinf}
 use Rattle.tables.specs.Layout.{hasRange, hasRangeOffset, hasDiscontinuity}
 use Rattle.tags.specs.Tags.{ClipTag, timed, ranged, discontinuity, mapped, Tag, ofHead, ofClip, unknown, comment, uri, leftOut}
 use Rattle.assembly.specs.declared.making.Making as makingᵈ
-use Rattle.assembly.specs.Assembly.{Segment, segment, emptySegment}
+use Rattle.assembly.specs.Assembly.{Segment, emptySegment}
 use Rattle.assembly.specs.Words.{spanWords, partWords, rangeWords, mapWords, rangeFlags, breakFlags, mapFlags}
 
 -- length; title; the flags of range, discontinuity and map; range; map
@@ -23,7 +23,8 @@ makingSeen m =
 
 -- the words that a clip's tags tell
 abbrev pub segmentWords : Segment → Groups
-segmentWords (segment l t r d m) = groups l (partWords t) (rangeFlags hasRange hasRangeOffset r) (breakFlags d) (mapFlags m) (rangeWords r) (mapWords m)
+segmentWords s =
+    groups (s .length) (partWords (s .title)) (rangeFlags hasRange hasRangeOffset (s .range)) (breakFlags (s .discontinuity)) (mapFlags (s .map)) (rangeWords (s .range)) (mapWords (s .map))
 
 -- after a tag of the clip, and after any tag
 abbrev pub toldWords : Groups → ClipTag → Groups

@@ -2,9 +2,7 @@
 use borrow.Author.Needs.{needs}
 use mathlib.Core.Path.{sym}
 use denote.Ref.{now}
-use Rattle.text.specs.Answers.{spanOf, partOf}
-use Rattle.attributes.specs.Answers.{optRangeOf}
-use Rattle.assembly.specs.Answers.{segmentMapOf}
+use Rattle.assembly.specs.Answers.{clipSeen}
 use Rattle.playlist.proofs.Groups.{clip-text}
 use Rattle.put.proofs.Putting.{puts-as, puts-then}
 use Rattle.cliplines.proofs.clip.Statement.{statement}
@@ -43,9 +41,8 @@ returns c =
     let b = d .before .before .before .before .before in
     let a = b .before .before .before .before in
     let s = a .before .before .before .before .before .before .before .args in
-    let k = s .c .segment in
     puts-as
-    (sym (clip-text (now (s .text)) (now (s .tags)) (s .tag-count) (spanOf (s .c .uri)) (k .length) (partOf (k .title)) (optRangeOf (k .«byte_range»)) (k .discontinuity) (segmentMapOf (k .map)) (s .c .first) (s .c .count)))
+    (sym (clip-text (now (s .text)) (now (s .tags)) (s .tag-count) (clipSeen (s .c))))
     (puts-then (a .map-lines .ensures) (puts-then (b .range-lines .ensures) (puts-then (d .copy-where .ensures) (puts-then (e .tag-lines .ensures) (puts-then (f .extinf-line .ensures) (g .uri-line .ensures))))))
 
 pub clip-spec : {M : Type 1} → statement M

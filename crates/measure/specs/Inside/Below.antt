@@ -8,7 +8,7 @@ use Rattle.text.specs.BasicTags.{ExtTag, ext, PlaylistType, event, vod, other}
 use Rattle.attributes.specs.ExtMap.{Map, extMap}
 use Rattle.tables.specs.Layout as layout
 use Rattle.tables.specs.Table.{clipWord}
-use Rattle.assembly.specs.Assembly.{segment, Clip, clip}
+use Rattle.assembly.specs.Assembly.{Clip}
 use Rattle.records.specs.Records.{clipAt, tagAt}
 
 module _ (n : ℕ) where
@@ -33,7 +33,7 @@ module _ (n : ℕ) where
   TagBelow (ext name rest) = SpanBelow name × PartBelow rest
 
   abbrev pub ClipBelow : Clip → Type 0
-  ClipBelow (clip u (segment l t r d m) f k) = SpanBelow u × (PartBelow t × MapBelow m)
+  ClipBelow c = SpanBelow (c .uri) × (PartBelow (c .segment .title) × MapBelow (c .segment .map))
 
   -- the records of a table
   abbrev pub TagsBelow : List ℕ → ℕ → Type 0

@@ -9,7 +9,7 @@ use Rattle.text.specs.Util.{ByteRange}
 use Rattle.text.specs.BasicTags.{ExtTag, ext, PlaylistType, event, vod, other}
 use Rattle.attributes.specs.ExtMap.{Map, extMap}
 use Rattle.tables.specs.Table.{listed}
-use Rattle.assembly.specs.Assembly.{Head, segment, Clip, clip}
+use Rattle.assembly.specs.Assembly.{Head, Clip}
 use Rattle.records.specs.Records.{clipsAt, tagAt}
 use Rattle.playlist.specs.Lines.{headerLine, versionLine, independentSegmentsLine, targetDurationLine, mediaSequenceLine, discontinuitySequenceLine, playlistTypeLine, iFramesOnlyLine, mapLine, byteRangeLine, discontinuityLine, unknownLine, extinfLine, uriLine, rangeBytes, lineBytes, lineIf, lineWhere, lineUnlessZero, linesText, endLines}
 
@@ -51,12 +51,13 @@ tagSize (ext name rest) = length (lineBytes (unknownLine [] none)) + spanSize na
 
 -- a clip without its unknown tags
 unfoldable pub clipSize : Clip → ℕ
-clipSize (clip u (segment l t r d m) f n) =
-    mapSize m
-    + length (linesText (lineIf byteRangeLine r))
-    + length (linesText (lineWhere discontinuityLine d))
-    + (length (lineBytes (extinfLine l [])) + partSize 0 t)
-    + (length (lineBytes (uriLine [])) + spanSize u)
+clipSize c =
+    let s = c .segment in
+    mapSize (s .map)
+    + length (linesText (lineIf byteRangeLine (s .range)))
+    + length (linesText (lineWhere discontinuityLine (s .discontinuity)))
+    + (length (lineBytes (extinfLine (s .length) [])) + partSize 0 (s .title))
+    + (length (lineBytes (uriLine [])) + spanSize (c .uri))
 
 -- unknown tags; clips with those of their runs; the whole
 unfoldable pub tagsSize : List ExtTag → ℕ
@@ -64,7 +65,7 @@ tagsSize [] = 0
 tagsSize (t ∷ ts) = tagSize t + tagsSize ts
 
 abbrev pub fullSize : List ℕ → Clip → ℕ
-fullSize tags (clip u s f n) = clipSize (clip u s f n) + tagsSize (listed (tagAt tags) f n)
+fullSize tags c = clipSize c + tagsSize (listed (tagAt tags) (c .firstTag) (c .tagCount))
 
 unfoldable pub clipsSize : List ℕ → List Clip → ℕ
 clipsSize tags [] = 0
