@@ -36,12 +36,13 @@ enum ledgerfern_refusal {
     LEDGERFERN_CLIP_TABLE_SHORT = 7, /* the clip table has too few words for the clips; place 0 */
     LEDGERFERN_TAG_TABLE_SHORT = 8,  /* the tag table has too few words for the kept unknown tags; place 0 */
     LEDGERFERN_BROKEN_TABLE = 9,     /* a table breaks the rule of the call; place 0 */
-    LEDGERFERN_OUTPUT_SHORT = 10,    /* the output has too few bytes, or the table of starts too few words; place 0 */
+    LEDGERFERN_OUTPUT_SHORT = 10,    /* the output, or the table of starts or of windows, is too short; place 0 */
     LEDGERFERN_TOTAL_TOO_LONG = 11,  /* all lengths together above LEDGERFERN_TOTAL_LIMIT ns; place 0 */
     LEDGERFERN_BAD_RATE = 12,        /* rate 0, or above LEDGERFERN_RATE_LIMIT; place 0 */
     LEDGERFERN_TURN_TOO_LATE = 13,   /* turn above LEDGERFERN_TURN_LIMIT; place 0 */
     LEDGERFERN_NO_SUCH_CLIP = 14,    /* the clip's index is not below the number of clips; place 0 */
     LEDGERFERN_WINDOW_TOO_FAR = 15,  /* a window's end above 2^64 - 1; place 0 */
+    LEDGERFERN_NO_RANGE_BEFORE = 16, /* a range without an offset, and none of the same URI just before it; place 0 */
     LEDGERFERN_NOTHING_PLAYS = 17,   /* there are no clips, or all lengths together are 0; place 0 */
     LEDGERFERN_TICK_TOO_LATE = 18    /* a tick at or past the start tick of turn 1,000,000; place 0 */
 };
@@ -103,6 +104,13 @@ enum ledgerfern_refusal {
 #define LEDGERFERN_START_WORDS 2
 #define LEDGERFERN_START_NS 0   /* its start within the turn, in ns, exact */
 #define LEDGERFERN_START_TICK 1 /* its start tick, counted from the beginning of turn 0 */
+
+/* A window's record, as ledgerfern_windows gives it: one for each clip, with what ledgerfern_window answers for it. */
+#define LEDGERFERN_WINDOW_WORDS 4
+#define LEDGERFERN_WINDOW_NUMBER 0  /* 0, or the refusal's number, 15 or 16; the other words are then 0 */
+#define LEDGERFERN_WINDOW_PRESENT 1 /* a mark: the clip has a range; else start and end are 0 */
+#define LEDGERFERN_WINDOW_START 2
+#define LEDGERFERN_WINDOW_END 3 /* the place after the last byte */
 
 /* ---- answers ------------------------------------------------------------------------------------------------------ */
 
@@ -184,6 +192,12 @@ typedef struct {
     uint64_t end; /* the place after the last byte */
 } ledgerfern_window_answer;
 
+typedef struct {
+    uint64_t number;
+    uint64_t place;
+    uint64_t clips; /* records in the table of windows */
+} ledgerfern_windows_answer;
+
 /* ---- calls -------------------------------------------------------------------------------------------------------- */
 
 /* Whether a text is a master playlist. Refusals: 1, 2, 3. */
@@ -212,10 +226,12 @@ ledgerfern_written_answer ledgerfern_write(const uint8_t *text, size_t text_leng
 
 /*
  * The calls below are over a table of clips: `clip_count` is how many records are meant, `clip_words` the table's size.
- * They read the words of lengths, or flags and range, and no others.
+ * Those of the clock read the words of lengths, and no others. The two of the window read those of URI, flags and range,
+ * and no others; they are lent the text too, since the URIs are places in it.
  *
- * Each call walks the table from its beginning, and keeps nothing. Who asks for the start of one clip after the other
- * walks it once for every clip, which takes seconds where there are many: ask ledgerfern_starts for all of a turn at once.
+ * Each call walks the table from its beginning, and keeps nothing. Who asks for the start of one clip after the other, or
+ * for its window, walks it once for every clip, which takes seconds where there are many: ask ledgerfern_starts for all
+ * starts of a turn at once, and ledgerfern_windows for all windows.
  */
 
 /* All lengths together, in ns. Refusals: 9, 11. */
@@ -259,8 +275,28 @@ ledgerfern_on_answer ledgerfern_clip_at(size_t clip_count, const uint64_t *clips
 ledgerfern_playing_answer ledgerfern_playing_at(size_t clip_count, const uint64_t *clips, size_t clip_words,
                                                 uint64_t rate, uint64_t tick);
 
-/* The part of its resource that a clip's range names; without an offset it starts at 0. Refusals: 9, 14, 15. */
-ledgerfern_window_answer ledgerfern_window(size_t clip_count, const uint64_t *clips, size_t clip_words, size_t clip);
+/*
+ * The part of its resource that a clip's range names (RFC 8216, 4.3.2.2). With an offset it begins there. Without one it
+ * begins where the window of the clip just before ends; that clip must have a range, and the same URI: the same bytes,
+ * wherever in the text they stand. Where it has not, or is refused by 16 itself, or there is none, the answer is 16. No
+ * clip is skipped, and a discontinuity breaks no chain. An end above 2^64 - 1 is 15, and so is all that goes on from it.
+ *
+ * Of the text only the length is judged (1): it need be neither UTF-8 nor a playlist. The table must keep the window's
+ * rule (9), also behind the clip that is asked for: the count fits; flags are below the limit; URIs have start <= end <=
+ * text_length. What ledgerfern_read gives keeps it, with the text that was read. Refusals: 1, 9, 14, 16, 15.
+ */
+ledgerfern_window_answer ledgerfern_window(const uint8_t *text, size_t text_length, size_t clip_count,
+                                           const uint64_t *clips, size_t clip_words, size_t clip);
+
+/*
+ * The windows of all clips in one pass: of each clip what ledgerfern_window gives, as a record of LEDGERFERN_WINDOW_WORDS
+ * words in the table of windows. A clip that is refused by 15 or 16 has that number in its record, and stops nothing.
+ * Words past the last record stay as they were. Refusals: 1, 9, then 10 where `window_words` is below clip_count x
+ * LEDGERFERN_WINDOW_WORDS.
+ */
+ledgerfern_windows_answer ledgerfern_windows(const uint8_t *text, size_t text_length, size_t clip_count,
+                                             const uint64_t *clips, size_t clip_words, uint64_t *windows,
+                                             size_t window_words);
 
 #ifdef __cplusplus
 }

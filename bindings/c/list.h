@@ -17,6 +17,7 @@
 #include "ledgerfern.h"
 
 static uint8_t text[LEDGERFERN_TEXT_LIMIT + 1]; /* a byte more than is read, so that a longer text is refused by 1 */
+static size_t text_length;
 static uint64_t clips[LEDGERFERN_MOST_CLIPS * LEDGERFERN_CLIP_WORDS];
 static uint64_t tags[LEDGERFERN_MOST_TAGS * LEDGERFERN_TAG_WORDS];
 
@@ -48,8 +49,11 @@ static void usage(void)
     exit(2);
 }
 
-/* A whole word of digits: what strtoull takes besides (blanks, signs, a rest) is no number here. */
-static uint64_t number(const char *name, const char *word)
+/*
+ * A whole word of digits: what strtoull takes besides (blanks, signs, a rest) is no number here. It is inline so that a
+ * program without numbers builds without a warning.
+ */
+static inline uint64_t number(const char *name, const char *word)
 {
     char *end;
 
@@ -62,14 +66,14 @@ static uint64_t number(const char *name, const char *word)
     return value;
 }
 
-/* Reads standard input into `text` and `clips`; how many clips there are. */
+/* Reads standard input into `text`, and its clips into `clips`; how many clips there are. */
 static size_t read_list(void)
 {
-    size_t length = fread(text, 1, sizeof text, stdin);
+    text_length = fread(text, 1, sizeof text, stdin);
     if (ferror(stdin))
         exit(failed(PROGRAM ": standard input"));
 
-    ledgerfern_read_answer list = ledgerfern_read(text, length, clips, CLIP_SIZE, tags, TAG_SIZE);
+    ledgerfern_read_answer list = ledgerfern_read(text, text_length, clips, CLIP_SIZE, tags, TAG_SIZE);
     refuse(list.number, list.place);
     return list.clips;
 }

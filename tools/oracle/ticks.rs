@@ -7,8 +7,10 @@
 //! lines to the file LINES. Nothing here comes from the library, nor from `tools/oracle/clock`: the sentences are quoted
 //! where they are followed. Where a list's start ticks are swept, all pairs of its 1,000,000 turns are looked at, one by
 //! one. `tools/ticks` builds this by plain rustc and runs the library beside it.
-use std::fmt::Write as _;
-use std::io::Write as _;
+mod calls;
+
+use calls::Argument::{Number, Words};
+use calls::{Dice, Run};
 
 // 01: "a lent table of 64-bit words, seventeen to a clip: .. 2 length in ns"
 const CLIP_WORDS: usize = 17;
@@ -219,44 +221,7 @@ fn start_ns(table: &Table, clip: u64) -> Result<u64, u64> {
     Ok(list.starts[clip as usize] as u64)
 }
 
-/// The records and the lines of the calls made so far.
-struct Run {
-    records: std::io::BufWriter<std::fs::File>,
-    lines: std::io::BufWriter<std::fs::File>,
-    calls: u64,
-    count: u64,
-}
-
 impl Run {
-    fn done(&self) -> bool {
-        self.calls >= self.count
-    }
-
-    fn record(&mut self, op: u8, table: &Table, rest: &[u64]) {
-        let numbers = [table.clips, table.words.len() as u64];
-        let mut bytes = vec![op];
-        for number in numbers.iter().chain(&table.words).chain(rest) {
-            bytes.extend_from_slice(&number.to_le_bytes());
-        }
-        self.records.write_all(&bytes).expect("the records can be written");
-    }
-
-    /// A line is op, number, place, which is 0 for each of these refusals, and the values.
-    fn line(&mut self, op: u8, number: u64, values: &[u64], out: Option<&[u64]>) {
-        let mut line = format!("{op} {number} 0");
-        for value in values {
-            write!(line, " {value}").unwrap();
-        }
-        if let Some(words) = out {
-            line.push_str(" |");
-            for word in words {
-                write!(line, " {word}").unwrap();
-            }
-        }
-        writeln!(self.lines, "{line}").expect("the lines can be written");
-        self.calls += 1;
-    }
-
     /// Makes a call. Where the pair at its tick is known from a sweep, it is not searched again.
     fn make(&mut self, table: &Table, call: &Call, known: Option<Pair>) {
         if self.done() {
@@ -264,7 +229,7 @@ impl Run {
         }
         match call {
             Call::ClipAt { rate, tick } => {
-                self.record(8, table, &[*rate, *tick]);
+                self.record(8, &[Number(table.clips), Words(&table.words), Number(*rate), Number(*tick)]);
                 match judge_tick(table, *rate, *tick) {
                     Err(number) => self.line(8, number, &[0, 0], None),
                     Ok(list) => {
@@ -274,7 +239,7 @@ impl Run {
                 }
             }
             Call::SinceAndLeft { rate, tick } => {
-                self.record(13, table, &[*rate, *tick]);
+                self.record(13, &[Number(table.clips), Words(&table.words), Number(*rate), Number(*tick)]);
                 match judge_tick(table, *rate, *tick) {
                     Err(number) => self.line(13, number, &[0, 0, 0, 0], None),
                     Ok(list) => {
@@ -288,16 +253,14 @@ impl Run {
                 }
             }
             Call::AllStarts { rate, turn, out } => {
-                let mut rest = vec![*rate, *turn, out.len() as u64];
-                rest.extend_from_slice(out);
-                self.record(14, table, &rest);
+                self.record(14, &[Number(table.clips), Words(&table.words), Number(*rate), Number(*turn), Words(out)]);
                 match all_starts(table, *rate, *turn, out) {
                     Err(number) => self.line(14, number, &[0], Some(out)),
                     Ok((clips, after)) => self.line(14, 0, &[clips as u64], Some(&after)),
                 }
             }
             Call::StartNs { clip } => {
-                self.record(28, table, &[*clip]);
+                self.record(28, &[Number(table.clips), Words(&table.words), Number(*clip)]);
                 match start_ns(table, *clip) {
                     Err(number) => self.line(28, number, &[0], None),
                     Ok(ns) => self.line(28, 0, &[ns], None),
@@ -311,39 +274,7 @@ impl Run {
 // Lists, by dice
 // ---------------------------------------------------------------------------------------------------------------
 
-/// Steele, Lea and Flood's SplitMix64.
-struct Dice(u64);
-
 impl Dice {
-    fn roll(&mut self) -> u64 {
-        self.0 = self.0.wrapping_add(0x9e37_79b9_7f4a_7c15);
-        let mut z = self.0;
-        z = (z ^ (z >> 30)).wrapping_mul(0xbf58_476d_1ce4_e5b9);
-        z = (z ^ (z >> 27)).wrapping_mul(0x94d0_49bb_1331_11eb);
-        z ^ (z >> 31)
-    }
-
-    /// Below a limit, which is above 0.
-    fn below(&mut self, limit: u64) -> u64 {
-        ((u128::from(self.roll()) * u128::from(limit)) >> 64) as u64
-    }
-
-    fn one_in(&mut self, many: u64) -> bool {
-        self.below(many) == 0
-    }
-
-    fn of<T: Copy>(&mut self, all: &[T]) -> T {
-        all[self.below(all.len() as u64) as usize]
-    }
-
-    /// From 1 to a largest number, each size as likely as another.
-    fn any_size(&mut self, largest: u64) -> u64 {
-        let bits = 64 - largest.leading_zeros();
-        let size = 1 + self.below(u64::from(bits));
-        let top = if size == 64 { u64::MAX } else { (1 << size) - 1 };
-        1 + self.below(top.min(largest))
-    }
-
     fn rate(&mut self) -> u64 {
         match self.below(8) {
             0 => 1,
@@ -374,15 +305,6 @@ impl Dice {
         lengths
     }
 
-    fn noise(&mut self) -> u64 {
-        match self.below(4) {
-            0 => 0,
-            1 => u64::MAX,
-            2 => self.below(100),
-            _ => self.roll(),
-        }
-    }
-
     /// A table with these lengths. All other words are anything, and so are words behind the last clip's.
     fn table(&mut self, lengths: &[u64]) -> Table {
         let mut words = Vec::new();
@@ -405,10 +327,6 @@ impl Dice {
         } else {
             Call::SinceAndLeft { rate, tick }
         }
-    }
-
-    fn out(&mut self, words: u64) -> Vec<u64> {
-        (0..words).map(|_| self.noise()).collect()
     }
 
     fn turn(&mut self) -> u64 {
@@ -685,25 +603,8 @@ fn known_lists(run: &mut Run, dice: &mut Dice) {
     }
 }
 
-fn opened(path: &str) -> std::io::BufWriter<std::fs::File> {
-    match std::fs::File::create(path) {
-        Ok(file) => std::io::BufWriter::with_capacity(1 << 20, file),
-        Err(fault) => {
-            eprintln!("ticks: {path}: {fault}");
-            std::process::exit(1);
-        }
-    }
-}
-
 fn main() {
-    let words: Vec<String> = std::env::args().skip(1).collect();
-    let numbers: Vec<u64> = words.iter().take(2).filter_map(|word| word.parse().ok()).collect();
-    if words.len() != 4 || numbers.len() != 2 {
-        eprintln!("usage: ticks SEED COUNT RECORDS LINES");
-        std::process::exit(2);
-    }
-    let mut dice = Dice(numbers[0]);
-    let mut run = Run { records: opened(&words[2]), lines: opened(&words[3]), calls: 0, count: numbers[1] };
+    let (mut run, mut dice) = Run::of_arguments("ticks");
     // a short run has more use for other lists
     if run.count >= 50_000 {
         known_lists(&mut run, &mut dice);
@@ -716,7 +617,5 @@ fn main() {
             _ => hostile(&mut run, &mut dice),
         }
     }
-    writeln!(run.lines, "end").expect("the lines can be written");
-    run.records.flush().expect("the records can be written");
-    run.lines.flush().expect("the lines can be written");
+    run.end();
 }

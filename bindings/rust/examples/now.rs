@@ -9,7 +9,7 @@ use ledgerfern::{parse_media_playlist_res, Refusal};
 
 mod shared;
 
-fn lines(text: &[u8], rate: u64, tick: u64) -> Result<String, Refusal> {
+fn lines(text: &[u8], [rate, tick]: [u64; 2]) -> Result<String, Refusal> {
     let list = parse_media_playlist_res(text)?;
     let now = list.playing_at(rate, tick)?;
     let uri = list.segments.get(now.clip).map_or("", |segment| &segment.uri);

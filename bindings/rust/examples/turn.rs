@@ -8,7 +8,7 @@ use ledgerfern::{parse_media_playlist_res, Refusal};
 
 mod shared;
 
-fn lines(text: &[u8], rate: u64, turn: u64) -> Result<String, Refusal> {
+fn lines(text: &[u8], [rate, turn]: [u64; 2]) -> Result<String, Refusal> {
     let list = parse_media_playlist_res(text)?;
     let clips = list.clips();
     let mut lines = String::new();

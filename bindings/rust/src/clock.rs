@@ -1,5 +1,6 @@
 //! The exact clock and the byte window, over a table of clips.
 use crate::refusal::{check, Refusal};
+use crate::tables::Packed;
 use crate::{ffi, layout};
 use std::iter::FusedIterator;
 use std::ops::Range;
@@ -8,15 +9,18 @@ use std::ops::Range;
 ///
 /// A list is played turn after turn; its turns and its clips are counted from 0, its ticks from the beginning of turn 0.
 /// Each call walks the table from its beginning. So for the starts of all clips take [`Clips::starts`], which is one call:
-/// [`Clips::start_tick`] for one clip after the other would walk the table once for every clip.
+/// [`Clips::start_tick`] for one clip after the other would walk the table once for every clip. In the same way
+/// [`Clips::windows`] gives all windows.
 #[derive(Clone, Debug, PartialEq, Eq)]
 pub struct Clips {
+    // What the words are places in: the window goes by the bytes of URIs.
+    text: Vec<u8>,
     words: Vec<u64>,
 }
 
 impl Clips {
-    pub(crate) fn new(words: Vec<u64>) -> Clips {
-        Clips { words }
+    pub(crate) fn new(packed: Packed) -> Clips {
+        Clips { text: packed.text, words: packed.clips }
     }
 
     /// How many clips there are.
@@ -75,18 +79,63 @@ impl Clips {
         Ok(Playing { turn: answer.turn, clip: answer.clip as usize, since: answer.since, left: answer.left })
     }
 
-    /// The bytes of its resource that a clip's range names, if it has one; without an offset they start at 0.
-    /// Refusals: 9, 14, 15.
+    /// The bytes of its resource that a clip's range names, if it has one (RFC 8216, 4.3.2.2): from its offset, or without
+    /// one from where the window of the clip just before ends. That clip must have a range, and the same URI, byte for byte.
+    /// No clip is skipped, and a discontinuity breaks no chain.
+    ///
+    /// Refusals: 1 where the list's strings are above 65,535 bytes together; 9; 14; 16 where a range without an offset has no
+    /// such clip before it, or one that is refused by 16 itself; 15 where the end is above 2^64 - 1.
     pub fn window(&self, clip: usize) -> Result<Option<Range<u64>>, Refusal> {
-        let answer = ffi::window(self.len(), &self.words, clip);
+        named(ffi::window(&self.text, self.len(), &self.words, clip))
+    }
+
+    /// The windows of all clips, in their order: what [`Clips::window`] gives for each, so that one refused by 15 or 16
+    /// stops none behind it. One call makes them all, before the first is taken. Refusals: 1 as of [`Clips::window`], 9.
+    pub fn windows(&self) -> Result<Windows, Refusal> {
+        let mut words = vec![0; self.len().saturating_mul(layout::WINDOW_WORDS)];
+        let answer = ffi::windows(&self.text, self.len(), &self.words, &mut words);
         check(answer.number, answer.place)?;
-        Ok((answer.present != 0).then_some(answer.start..answer.end))
+        Ok(Windows { words, left: 0..answer.clips as usize })
     }
 }
 
 fn given(answer: ffi::Value) -> Result<u64, Refusal> {
     check(answer.number, answer.place)?;
     Ok(answer.value)
+}
+
+fn named(answer: ffi::Window) -> Result<Option<Range<u64>>, Refusal> {
+    check(answer.number, answer.place)?;
+    Ok((answer.present != 0).then_some(answer.start..answer.end))
+}
+
+/// A table of records, one for each clip, is taken from both ends; its `at` makes the item of a clip.
+macro_rules! taken_from_both_ends {
+    ($table:ty, $item:ty) => {
+        impl Iterator for $table {
+            type Item = $item;
+
+            fn next(&mut self) -> Option<$item> {
+                let clip = self.left.next()?;
+                self.at(clip)
+            }
+
+            fn size_hint(&self) -> (usize, Option<usize>) {
+                self.left.size_hint()
+            }
+        }
+
+        impl DoubleEndedIterator for $table {
+            fn next_back(&mut self) -> Option<$item> {
+                let clip = self.left.next_back()?;
+                self.at(clip)
+            }
+        }
+
+        impl ExactSizeIterator for $table {}
+
+        impl FusedIterator for $table {}
+    };
 }
 
 /// When a clip starts in a turn.
@@ -112,29 +161,29 @@ impl Starts {
     }
 }
 
-impl Iterator for Starts {
-    type Item = Start;
+taken_from_both_ends!(Starts, Start);
 
-    fn next(&mut self) -> Option<Start> {
-        let clip = self.left.next()?;
-        self.at(clip)
-    }
+/// The windows of all clips, in their order ([`Clips::windows`]): of each what [`Clips::window`] gives.
+#[derive(Clone, Debug)]
+pub struct Windows {
+    words: Vec<u64>,
+    left: Range<usize>,
+}
 
-    fn size_hint(&self) -> (usize, Option<usize>) {
-        self.left.size_hint()
+impl Windows {
+    fn at(&self, clip: usize) -> Option<Result<Option<Range<u64>>, Refusal>> {
+        let record = self.words.chunks_exact(layout::WINDOW_WORDS).nth(clip)?;
+        Some(named(ffi::Window {
+            number: *record.get(layout::WINDOW_NUMBER)?,
+            place: 0, // 15 and 16 have none
+            present: *record.get(layout::WINDOW_PRESENT)?,
+            start: *record.get(layout::WINDOW_START)?,
+            end: *record.get(layout::WINDOW_END)?,
+        }))
     }
 }
 
-impl DoubleEndedIterator for Starts {
-    fn next_back(&mut self) -> Option<Start> {
-        let clip = self.left.next_back()?;
-        self.at(clip)
-    }
-}
-
-impl ExactSizeIterator for Starts {}
-
-impl FusedIterator for Starts {}
+taken_from_both_ends!(Windows, Result<Option<Range<u64>>, Refusal>);
 
 /// A clip that is on. One pair is less than another where it is played before it: by turn, then by clip.
 #[derive(Clone, Copy, Debug, PartialEq, Eq, PartialOrd, Ord, Hash)]

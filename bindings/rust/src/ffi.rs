@@ -84,6 +84,14 @@ pub struct Window {
 
 #[repr(C)]
 #[derive(Clone, Copy)]
+pub struct Windows {
+    pub number: u64,
+    pub place: u64,
+    pub clips: u64,
+}
+
+#[repr(C)]
+#[derive(Clone, Copy)]
 pub struct Written {
     pub number: u64,
     pub place: u64,
@@ -92,7 +100,7 @@ pub struct Written {
 
 mod calls {
     use super::{Head, Written};
-    use super::{On, Playing, Read, Starts, Value, Verdict, Window};
+    use super::{On, Playing, Read, Starts, Value, Verdict, Window, Windows};
 
     extern "C" {
         pub fn ledgerfern_verdict(text: *const u8, text_length: usize) -> Verdict;
@@ -139,7 +147,23 @@ mod calls {
             rate: u64,
             tick: u64,
         ) -> Playing;
-        pub fn ledgerfern_window(clip_count: usize, clips: *const u64, clip_words: usize, clip: usize) -> Window;
+        pub fn ledgerfern_window(
+            text: *const u8,
+            text_length: usize,
+            clip_count: usize,
+            clips: *const u64,
+            clip_words: usize,
+            clip: usize,
+        ) -> Window;
+        pub fn ledgerfern_windows(
+            text: *const u8,
+            text_length: usize,
+            clip_count: usize,
+            clips: *const u64,
+            clip_words: usize,
+            windows: *mut u64,
+            window_words: usize,
+        ) -> Windows;
         pub fn ledgerfern_write(
             text: *const u8,
             text_length: usize,
@@ -203,8 +227,22 @@ pub fn playing_at(clip_count: usize, clips: &[u64], rate: u64, tick: u64) -> Pla
     unsafe { calls::ledgerfern_playing_at(clip_count, clips.as_ptr(), clips.len(), rate, tick) }
 }
 
-pub fn window(clip_count: usize, clips: &[u64], clip: usize) -> Window {
-    unsafe { calls::ledgerfern_window(clip_count, clips.as_ptr(), clips.len(), clip) }
+pub fn window(text: &[u8], clip_count: usize, clips: &[u64], clip: usize) -> Window {
+    unsafe { calls::ledgerfern_window(text.as_ptr(), text.len(), clip_count, clips.as_ptr(), clips.len(), clip) }
+}
+
+pub fn windows(text: &[u8], clip_count: usize, clips: &[u64], windows: &mut [u64]) -> Windows {
+    unsafe {
+        calls::ledgerfern_windows(
+            text.as_ptr(),
+            text.len(),
+            clip_count,
+            clips.as_ptr(),
+            clips.len(),
+            windows.as_mut_ptr(),
+            windows.len(),
+        )
+    }
 }
 
 pub fn write(

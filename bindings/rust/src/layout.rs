@@ -29,6 +29,12 @@ pub const START_WORDS: usize = 2;
 pub const START_NS: usize = 0;
 pub const START_TICK: usize = 1;
 
+pub const WINDOW_WORDS: usize = 4;
+pub const WINDOW_NUMBER: usize = 0;
+pub const WINDOW_PRESENT: usize = 1;
+pub const WINDOW_START: usize = 2;
+pub const WINDOW_END: usize = 3;
+
 pub const HAS_RANGE: u64 = 1;
 pub const HAS_RANGE_OFFSET: u64 = 2;
 pub const HAS_DISCONTINUITY: u64 = 4;

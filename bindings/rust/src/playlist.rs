@@ -1,5 +1,5 @@
 //! A media playlist as values, with the names that m3u8-rs gives them.
-use crate::{tables, Clips, On, Playing, Refusal, Starts};
+use crate::{tables, Clips, On, Playing, Refusal, Starts, Windows};
 use std::fmt;
 use std::ops::Range;
 use std::str::FromStr;
@@ -31,7 +31,7 @@ impl MediaPlaylist {
     /// The table of its clips, for the clock and the window. The shortcuts below make it anew at each call, which copies
     /// every string of the list: where more than one answer is wanted, make it once and ask it.
     pub fn clips(&self) -> Clips {
-        Clips::new(tables::pack(self).clips)
+        Clips::new(tables::pack(self))
     }
 
     /// All lengths together, in ns.
@@ -70,7 +70,7 @@ impl MediaPlaylist {
         self.clips().playing_at(rate, tick)
     }
 
-    /// Its text, byte for byte as the library writes it. Refusals: 1 where its strings are above 65,536 bytes together; 9
+    /// Its text, byte for byte as the library writes it. Refusals: 1 where its strings are above 65,535 bytes together; 9
     /// where a length is 10^18 ns or more, or its two forms do not agree ([`MediaSegment::set_duration_ns`]).
     pub fn to_text(&self) -> Result<Vec<u8>, Refusal> {
         tables::pack(self).written()
@@ -84,9 +84,15 @@ impl MediaPlaylist {
         }
     }
 
-    /// The bytes of its resource that a clip's range names, if it has one ([`Clips::window`]).
+    /// The bytes of its resource that a clip's range names, if it has one; without an offset they go on from those of the
+    /// clip just before ([`Clips::window`]). For every clip take [`MediaPlaylist::windows`].
     pub fn window(&self, clip: usize) -> Result<Option<Range<u64>>, Refusal> {
         self.clips().window(clip)
+    }
+
+    /// The windows of all clips ([`Clips::windows`]): one table and one call, whatever the number of clips.
+    pub fn windows(&self) -> Result<Windows, Refusal> {
+        self.clips().windows()
     }
 }
 
@@ -176,7 +182,8 @@ pub struct Map {
 pub struct ByteRange {
     /// How many bytes.
     pub length: u64,
-    /// From which byte on.
+    /// From which byte on. A segment's range without it goes on where that of the segment just before ends, in the same
+    /// resource ([`Clips::window`]).
     pub offset: Option<u64>,
 }
 

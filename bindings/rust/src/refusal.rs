@@ -5,7 +5,7 @@ use std::fmt;
 /// Why a call gives nothing: the number of the reason, and the place in the text that it names, or 0.
 #[derive(Clone, Copy, Debug, PartialEq, Eq, Hash)]
 pub struct Refusal {
-    /// 1 to 15, 17 or 18, as `include/ledgerfern.h` has them.
+    /// 1 to 18, as `include/ledgerfern.h` has them.
     pub number: u64,
     /// A place in the text, in bytes; 0 where the reason has none.
     pub place: usize,
@@ -24,12 +24,13 @@ impl Refusal {
             7 => "the clip table is too short",
             8 => "the tag table is too short",
             9 => "a table breaks its rule",
-            10 => "the output, or the table of starts, is too short",
+            10 => "the output, or the table of starts or of windows, is too short",
             11 => "the total is above 10^15 ns",
             12 => "the rate is not 1 to 90,000",
             13 => "the turn is above 999,999",
             14 => "there is no such clip",
             15 => "the window ends above 2^64 - 1",
+            16 => "the range has no offset, and no range of the same URI comes just before it",
             17 => "nothing plays: there are no clips, or the total is 0",
             18 => "the tick is at or past the start tick of turn 1,000,000",
             _ => "unknown",

@@ -99,7 +99,7 @@ pub struct Packed {
 }
 
 /// The tables of a playlist. A text of its own begins with a byte that no span shows, so that no part that is there has
-/// two zeros for its words.
+/// two zeros for its words; so the strings may have one byte less than a text.
 pub fn pack(playlist: &MediaPlaylist) -> Packed {
     let mut packed = Packed {
         text: vec![b'\n'],

@@ -1,7 +1,7 @@
-//! The binding's tests: values by hand from document 01's examples, and the clock beside sums made here. A program of its
-//! own (`harness = false`), so that it also runs where the usual start of a Rust program can't.
+//! The binding's tests: values by hand from document 01's examples, and the clock and the window beside sums made here. A
+//! program of its own (`harness = false`), so that it also runs where the usual start of a Rust program can't.
 use ledgerfern::*;
-use std::ops::RangeInclusive;
+use std::ops::{Range, RangeInclusive};
 
 const SHEET: &[u8] = b"#EXTM3U\n#EXTINF:9.009,bird\na.ts\n#EXTINF:0.004,\nb.ts\n#EXTINF:3.003,\nc.ts\n";
 
@@ -45,6 +45,35 @@ impl Chance {
     /// Up to so many lengths, a quarter of them 0.
     fn lengths(&mut self, most_clips: u64, most_ns: u64) -> Vec<u64> {
         (0..self.upto(most_clips)).map(|_| if self.upto(3) == 0 { 0 } else { self.upto(most_ns) }).collect()
+    }
+
+    /// Up to 1,000, or, one time in ten, as far below 2^64 - 1.
+    fn small_or_far(&mut self) -> u64 {
+        let small = self.upto(1_000);
+        if self.upto(9) == 0 {
+            u64::MAX - small
+        } else {
+            small
+        }
+    }
+
+    /// So many clips, most of which go on from the one before.
+    fn reel(&mut self, count: u64) -> MediaPlaylist {
+        let mut list = MediaPlaylist::default();
+        let mut uri = "a";
+        for _ in 0..count {
+            if self.upto(5) == 0 {
+                uri = ["a", "b", "ab", ""][self.upto(3) as usize];
+            }
+            let byte_range = match self.upto(9) {
+                0 => None,
+                1 | 2 => at(self.small_or_far(), self.small_or_far()),
+                _ => goes_on(self.small_or_far()),
+            };
+            let discontinuity = self.upto(3) == 0;
+            list.segments.push(MediaSegment { uri: uri.into(), byte_range, discontinuity, ..Default::default() });
+        }
+        list
     }
 }
 
@@ -332,18 +361,221 @@ fn lengths_in_both_forms() {
     }
 }
 
+type Window = Result<Option<Range<u64>>, Refusal>;
+
+fn bytes(start: u64, end: u64) -> Window {
+    Ok(Some(start..end))
+}
+
+/// So many bytes from an offset.
+fn at(offset: u64, length: u64) -> Option<ByteRange> {
+    Some(ByteRange { length, offset: Some(offset) })
+}
+
+/// So many bytes behind the range before.
+fn goes_on(length: u64) -> Option<ByteRange> {
+    Some(ByteRange { length, offset: None })
+}
+
+/// A list by the URIs and ranges of its clips.
+fn ranged(clips: &[(&str, Option<ByteRange>)]) -> MediaPlaylist {
+    let segment = |(uri, byte_range): &(&str, Option<ByteRange>)| MediaSegment {
+        uri: uri.to_string(),
+        byte_range: byte_range.clone(),
+        ..Default::default()
+    };
+    MediaPlaylist { segments: clips.iter().map(segment).collect(), ..Default::default() }
+}
+
+/// A list's windows by both calls, which give the same.
+fn windows_of(list: &MediaPlaylist) -> Vec<Window> {
+    let clips = list.clips();
+    let windows: Vec<Window> = clips.windows().expect("the list has windows").collect();
+    let one_by_one: Vec<Window> = (0..clips.len()).map(|clip| clips.window(clip)).collect();
+    assert_eq!(windows, one_by_one);
+    assert_eq!(clips.window(clips.len()), refusal(14));
+    windows
+}
+
 fn windows() {
     let list = parsed(
-        "#EXTM3U\n#EXT-X-BYTERANGE:10@5\na\n#EXT-X-BYTERANGE:7\nb\nc\n#EXT-X-BYTERANGE:2@18446744073709551614\nd\n",
+        "#EXTM3U\n#EXT-X-BYTERANGE:10@5\na\n#EXT-X-BYTERANGE:7\na\n#EXT-X-BYTERANGE:7\nb\nc\n\
+         #EXT-X-BYTERANGE:2@18446744073709551614\nd\n",
     );
     assert_eq!(list.segments[0].byte_range, Some(ByteRange { length: 10, offset: Some(5) }));
     assert_eq!(list.segments[1].byte_range, Some(ByteRange { length: 7, offset: None }));
-    let clips = list.clips();
-    assert_eq!(clips.window(0), Ok(Some(5..15)));
-    assert_eq!(clips.window(1), Ok(Some(0..7)));
-    assert_eq!(clips.window(2), Ok(None));
-    assert_eq!(clips.window(3), Err(Refusal { number: 15, place: 0 }));
-    assert_eq!(list.window(4), Err(Refusal { number: 14, place: 0 }));
+    assert_eq!(windows_of(&list), [bytes(5, 15), bytes(15, 22), refusal(16), Ok(None), refusal(15)]);
+    assert_eq!((list.window(1), list.window(4), list.window(5)), (bytes(15, 22), refusal(15), refusal(14)));
+    assert!(list.windows().expect("the list has windows").eq(windows_of(&list)));
+    assert_eq!(windows_of(&MediaPlaylist::default()), []);
+    assert_eq!(
+        Refusal { number: 16, place: 0 }.reason(),
+        "the range has no offset, and no range of the same URI comes just before it"
+    );
+}
+
+/// A list whose clips are all cut from one file, as packagers write it.
+fn a_reel() {
+    let text = "#EXTM3U\n#EXT-X-VERSION:4\n#EXT-X-TARGETDURATION:2\n\
+                #EXTINF:2.000000,\n#EXT-X-BYTERANGE:94752@0\nreel.ts\n\
+                #EXTINF:2.000000,\n#EXT-X-BYTERANGE:96068\nreel.ts\n\
+                #EXTINF:2.000000,\n#EXT-X-BYTERANGE:95128\nreel.ts\n\
+                #EXT-X-DISCONTINUITY\n#EXTINF:1.040000,\n#EXT-X-BYTERANGE:47564\nreel.ts\n#EXT-X-ENDLIST\n";
+    let hand = [bytes(0, 94_752), bytes(94_752, 190_820), bytes(190_820, 285_948), bytes(285_948, 333_512)];
+    let list = parsed(text);
+    assert!(list.segments[3].discontinuity);
+    assert_eq!(windows_of(&list), hand);
+    // A window is the same after writing and reading again.
+    let again = parse_media_playlist_res(&list.to_text().expect("it is written")).expect("it is read");
+    assert_eq!(windows_of(&again), hand);
+    // Without the first clip no range has a beginning, until one has an offset.
+    let late = text.replace("#EXTINF:2.000000,\n#EXT-X-BYTERANGE:94752@0\nreel.ts\n", "");
+    assert_eq!(windows_of(&parsed(&late)), [refusal(16), refusal(16), refusal(16)]);
+    let late = late.replace("95128", "95128@190820");
+    assert_eq!(windows_of(&parsed(&late)), [refusal(16), bytes(190_820, 285_948), bytes(285_948, 333_512)]);
+}
+
+fn chains() {
+    // Nothing comes before the first.
+    assert_eq!(windows_of(&ranged(&[("a", goes_on(4))])), [refusal(16)]);
+    assert_eq!(windows_of(&ranged(&[("a", goes_on(0)), ("a", goes_on(5))])), [refusal(16), refusal(16)]);
+    // An offset begins anew, also at 0 and backwards, and a range of no bytes is one.
+    let list = ranged(&[("a", at(7, 5)), ("a", goes_on(0)), ("a", goes_on(3)), ("a", at(0, 2)), ("a", goes_on(9))]);
+    assert_eq!(windows_of(&list), [bytes(7, 12), bytes(12, 12), bytes(12, 15), bytes(0, 2), bytes(2, 11)]);
+    // A clip without a range lies between: it is not skipped, and whatever comes before it, it is whole.
+    let list = ranged(&[("a", at(7, 5)), ("a", None), ("a", goes_on(1)), ("a", None), ("a", goes_on(1))]);
+    assert_eq!(windows_of(&list), [bytes(7, 12), Ok(None), refusal(16), Ok(None), refusal(16)]);
+    // Another URI: neither goes on from the other, nor is the clip of the other skipped.
+    let list = ranged(&[("a", at(7, 5)), ("b", goes_on(1)), ("a", goes_on(1)), ("b", at(2, 3)), ("b", goes_on(1))]);
+    assert_eq!(windows_of(&list), [bytes(7, 12), refusal(16), refusal(16), bytes(2, 5), bytes(5, 6)]);
+    // One URI is the beginning of another, or its end, or differs in a byte; none is resolved.
+    for other in ["ab", "abcd", "bc", "", "abd", "bbc", "aBc", "./abc", "abc?", "%61bc"] {
+        for (one, other) in [("abc", other), (other, "abc")] {
+            let list = ranged(&[(one, at(7, 5)), (other, goes_on(1))]);
+            assert_eq!(windows_of(&list), [bytes(7, 12), refusal(16)]);
+        }
+    }
+    // Empty URIs, which no text has, are the same.
+    assert_eq!(windows_of(&ranged(&[("", at(3, 2)), ("", goes_on(4))])), [bytes(3, 5), bytes(5, 9)]);
+    // What else a clip has does not matter.
+    let mut list = ranged(&[("a", at(7, 5)), ("a", goes_on(1)), ("a", goes_on(2))]);
+    let map = Map { uri: "m".into(), byte_range: at(90, 9), attributes: "URI=\"m\"".into() };
+    let tag = ExtTag { tag: "X-FOO".into(), rest: Some("bar".into()) };
+    list.segments[0].unknown_tags.push(tag);
+    list.segments[1].discontinuity = true;
+    list.segments[1].title = Some("a".into());
+    list.segments[1].map = Some(map);
+    list.segments[2].set_duration_ns(u64::MAX);
+    assert_eq!(windows_of(&list), [bytes(7, 12), bytes(12, 13), bytes(13, 15)]);
+}
+
+/// Ends around 2^64 - 1.
+fn far_windows() {
+    const MOST: u64 = u64::MAX;
+    let list = ranged(&[("a", at(MOST - 1, 1)), ("a", goes_on(0)), ("a", goes_on(1)), ("a", goes_on(0))]);
+    assert_eq!(windows_of(&list), [bytes(MOST - 1, MOST), bytes(MOST, MOST), refusal(15), refusal(15)]);
+    let list = ranged(&[("a", at(0, MOST)), ("a", goes_on(1)), ("a", goes_on(MOST)), ("a", at(0, 1))]);
+    assert_eq!(windows_of(&list), [bytes(0, MOST), refusal(15), refusal(15), bytes(0, 1)]);
+    let list = ranged(&[("a", at(1, MOST)), ("a", goes_on(0)), ("b", goes_on(0)), ("b", None), ("b", goes_on(MOST))]);
+    assert_eq!(windows_of(&list), [refusal(15), refusal(15), refusal(16), Ok(None), refusal(16)]);
+    // Without a beginning nothing is too far.
+    let list = ranged(&[("a", goes_on(MOST)), ("a", goes_on(MOST)), ("a", goes_on(2))]);
+    assert_eq!(windows_of(&list), [refusal(16), refusal(16), refusal(16)]);
+}
+
+/// The rule once more, clip by clip, in numbers that hold any sum: `ends` is where the range before ends, and of which URI.
+fn windows_by_sums(list: &MediaPlaylist) -> Vec<Window> {
+    let mut ends: Option<(&str, u128)> = None;
+    let mut windows = Vec::new();
+    for segment in &list.segments {
+        let before = ends.take().filter(|(uri, _)| *uri == segment.uri).map(|(_, end)| end);
+        let range = match &segment.byte_range {
+            Some(range) => range,
+            None => {
+                windows.push(Ok(None));
+                continue;
+            }
+        };
+        let start = range.offset.map(u128::from).or(before);
+        ends = start.map(|start| (segment.uri.as_str(), start + u128::from(range.length)));
+        windows.push(match (start, ends) {
+            (Some(start), Some((_, end))) if end <= u128::from(u64::MAX) => bytes(start as u64, end as u64),
+            (Some(_), _) => refusal(15),
+            (None, _) => refusal(16),
+        });
+    }
+    windows
+}
+
+/// Short lists and a long one: each clip's window is what the sums are, by both calls.
+fn windows_agree() {
+    let mut chance = Chance(4);
+    let [mut whole, mut given, mut too_far, mut no_beginning] = [0; 4];
+    for count in (0..400).map(|list| list % 13).chain([2_000]) {
+        let list = chance.reel(count);
+        let windows = windows_of(&list);
+        assert_eq!(windows, windows_by_sums(&list));
+        for window in windows {
+            match window.map_err(|refusal| refusal.number) {
+                Ok(None) => whole += 1,
+                Ok(Some(_)) => given += 1,
+                Err(15) => too_far += 1,
+                Err(_) => no_beginning += 1,
+            }
+        }
+    }
+    assert!(100 < whole && 100 < given && 100 < too_far && 100 < no_beginning);
+}
+
+/// As many clips of one reel as a text holds: what was read is never too long for its windows.
+fn longest_reel() {
+    let mut text = b"#EXTM3U\n#EXT-X-BYTERANGE:1@0\na\n".to_vec();
+    while text.len() + 21 <= 65_536 {
+        text.extend_from_slice(b"#EXT-X-BYTERANGE:1\na\n");
+    }
+    let clips = parse_media_playlist_res(&text).expect("it is read").clips();
+    let windows = clips.windows().expect("the list has windows");
+    assert_eq!((clips.len(), windows.len()), (3_120, 3_120));
+    assert!(windows.zip(0..).all(|(window, clip)| window == bytes(clip, clip + 1)));
+    assert_eq!(clips.window(3_119), bytes(3_119, 3_120));
+    let uri = "a".repeat(65_500);
+    let list = parsed(&format!("#EXTM3U\n#EXT-X-BYTERANGE:1@0\n{}", uri));
+    assert_eq!((list.segments[0].uri.len(), windows_of(&list)), (65_500, vec![bytes(0, 1)]));
+}
+
+/// Strings of 65,535 bytes together are taken, and one byte more is refused, before there is no such clip. The clock does
+/// not go by strings.
+fn too_long_for_windows() {
+    let mut list = ranged(&[(&"a".repeat(30_000), at(7, 5)), (&"a".repeat(30_000), goes_on(1))]);
+    list.segments[1].title = Some("t".repeat(5_535));
+    assert_eq!(windows_of(&list), [bytes(7, 12), bytes(12, 13)]);
+    for uri in ["b".to_string(), "b".repeat(65_536)] {
+        list.segments.push(MediaSegment { uri, ..Default::default() });
+        let clips = list.clips();
+        for clip in [0, 1, 2, 3, usize::MAX] {
+            assert_eq!(clips.window(clip), refusal(1));
+        }
+        assert_eq!(clips.windows().err(), Some(Refusal { number: 1, place: 0 }));
+        assert_eq!(list.windows().err(), Some(Refusal { number: 1, place: 0 }));
+        assert_eq!((clips.total(), clips.start_ns(2)), (Ok(0), Ok(0)));
+    }
+}
+
+/// The windows can be taken from both ends; what was taken is gone, and after the last there is none.
+fn windows_from_both_ends() {
+    let list = ranged(&[("a", at(7, 5)), ("a", goes_on(1)), ("a", None), ("a", goes_on(2))]);
+    let windows = list.windows().expect("the list has windows");
+    let mut hand = vec![bytes(7, 12), bytes(12, 13), Ok(None), refusal(16)];
+    assert_eq!(windows.clone().collect::<Vec<_>>(), hand);
+    hand.reverse();
+    assert_eq!(windows.clone().rev().collect::<Vec<_>>(), hand);
+    let mut left = windows.clone();
+    assert_eq!((left.len(), left.size_hint()), (4, (4, Some(4))));
+    assert_eq!((left.next(), left.next_back(), left.len()), (Some(bytes(7, 12)), Some(refusal(16)), 2));
+    assert_eq!((left.nth(1), left.len()), (Some(Ok(None)), 0));
+    assert_eq!((left.next(), left.next_back(), left.next()), (None, None, None));
+    assert_eq!(windows.len(), 4);
+    assert!(format!("{:?}", windows).starts_with("Windows"));
 }
 
 fn heads() {
@@ -410,6 +642,8 @@ fn refusals() {
     assert_eq!(refused(&vec![b'\n'; 65_537]), (1, 0));
     let refusal = Refusal { number: 5, place: 8 };
     assert!(refusal.to_string().starts_with("refused 5 at 8: "));
+    let unknown = |number| Refusal { number, place: 0 }.reason() == "unknown";
+    assert!(unknown(0) && !(1..=18).any(unknown) && unknown(19));
 }
 
 fn verdicts() {
@@ -464,6 +698,7 @@ fn any_pieces() {
             let clips = list.clips();
             assert_eq!(clips.len(), list.segments.len());
             assert!(rest.len() <= text.len() && clips.total().is_ok());
+            assert_eq!(windows_of(&list), windows_by_sums(&list));
         }
     }
 }
@@ -512,6 +747,13 @@ const CASES: &[Case] = &[
     ("from start to start", from_start_to_start),
     ("lengths in both forms", lengths_in_both_forms),
     ("windows", windows),
+    ("a reel", a_reel),
+    ("chains", chains),
+    ("far windows", far_windows),
+    ("windows agree", windows_agree),
+    ("longest reel", longest_reel),
+    ("too long for windows", too_long_for_windows),
+    ("windows from both ends", windows_from_both_ends),
     ("heads", heads),
     ("maps and unknown tags", maps_and_unknown_tags),
     ("edges", edges),

@@ -2,6 +2,7 @@
 -- Assumes nothing.
 use mathlib.Core.Path.{_≡_, refl, ap}
 use mathlib.Core.Bool.{Bool}
+use mathlib.Core.List.{[], _∷_}
 use Prim.Native.Nat.{ℕ, zero, suc, _<_}
 use native.Mathlib.Omega.{arith}
 use Rattle.text.proofs.Only.{Only, only-by}
@@ -11,6 +12,7 @@ use Rattle.assembly.specs.Assembly.{Head}
 use Rattle.media.specs.Calls.{Read, read}
 use Rattle.playing.specs.Playing.{Pair, pair, Playing, playing}
 use Rattle.window.specs.Window.{Window, none, range}
+use Rattle.windows.specs.Table.{windowRecord}
 use Rattle.ledgerfern.specs.declared.Verdict as verdictᵈ
 use Rattle.ledgerfern.specs.declared.Read as readᵈ
 use Rattle.ledgerfern.specs.declared.Value as valueᵈ
@@ -18,7 +20,8 @@ use Rattle.ledgerfern.specs.declared.On as onᵈ
 use Rattle.ledgerfern.specs.declared.Playing as playingᵈ
 use Rattle.ledgerfern.specs.declared.Starts as startsᵈ
 use Rattle.ledgerfern.specs.declared.Window as windowᵈ
-use Rattle.ledgerfern.specs.Numbers.{verdictNumbers, valueNumbers, onNumbers, playingNumbers, startsNumbers, windowNumbers, readNumbers}
+use Rattle.ledgerfern.specs.declared.Windows as windowsᵈ
+use Rattle.ledgerfern.specs.Numbers.{verdictNumbers, valueNumbers, onNumbers, playingNumbers, startsNumbers, windowNumbers, windowsNumbers, readNumbers}
 use Rattle.ledgerfern.specs.Heads.{markFrom, headFrom}
 use Rattle.ledgerfern.proofs.HeadNumbers.{mark-in, numbers-in}
 
@@ -99,6 +102,22 @@ window-faithful = only-by windowNumbers windowBack go
     go (refused r p) = row-back r p _
     go (given none) = refl
     go (given (range start end)) = refl
+
+-- a record of the table of windows has the numbers of the call for its clip, but for the place
+pub record-numbers : (a : Answer Window) → windowRecord a ≡ windowNumbers a .number ∷ windowNumbers a .present ∷ windowNumbers a .start ∷ windowNumbers a .end ∷ []
+record-numbers (refused r p) = refl
+record-numbers (given none) = refl
+record-numbers (given (range start end)) = refl
+
+abbrev windowsBack : windowsᵈ.Windows → Answer ℕ
+windowsBack v = answerFrom (v .number) (v .place) (v .clips)
+
+pub windows-faithful : Only windowsNumbers
+windows-faithful = only-by windowsNumbers windowsBack go
+  where
+    go : (a : Answer ℕ) → windowsBack (windowsNumbers a) ≡ a
+    go (refused r p) = row-back r p _
+    go (given n) = refl
 
 abbrev readBack : readᵈ.Read → Answer Read
 readBack r = answerFrom (r .number) (r .place) (read (headFrom (r .head)) (r .clips) (r .tags) (r .stop))

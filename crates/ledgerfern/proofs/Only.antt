@@ -13,9 +13,10 @@ use Rattle.ledgerfern.specs.declared.On as onᵈ
 use Rattle.ledgerfern.specs.declared.Playing as playingᵈ
 use Rattle.ledgerfern.specs.declared.Starts as startsᵈ
 use Rattle.ledgerfern.specs.declared.Window as windowᵈ
+use Rattle.ledgerfern.specs.declared.Windows as windowsᵈ
 use Rattle.ledgerfern.specs.declared.Head as headᵈ
 use Rattle.ledgerfern.specs.declared.Written as writtenᵈ
-use Rattle.ledgerfern.specs.Numbers.{verdictNumbers, valueNumbers, onNumbers, playingNumbers, windowNumbers, ReadAs, StartsAs}
+use Rattle.ledgerfern.specs.Numbers.{verdictNumbers, valueNumbers, onNumbers, playingNumbers, windowNumbers, ReadAs, StartsAs, WindowsAs}
 use Rattle.ledgerfern.specs.Write.{WriteAs}
 
 -- of a promise `r ≡ x`
@@ -48,6 +49,14 @@ module _ {t : List ℕ} {n rate turn : ℕ} {out₀ out out′ : List ℕ} {r r�
 -- `ledgerfern_window`
 pub window-once : (x : Answer Window) (a b : windowᵈ.Window) → a ≡ windowNumbers x → b ≡ windowNumbers x → a ≡ b
 window-once x = one (windowNumbers x)
+
+-- `ledgerfern_windows`, at the same text, words and count, and the same table
+module _ {text t : List ℕ} {n : ℕ} {out₀ out out′ : List ℕ} {r r′ : windowsᵈ.Windows} (p : WindowsAs text t n out₀ out r) (q : WindowsAs text t n out₀ out′ r′) where
+  pub windows-once : r ≡ r′
+  windows-once = one _ r r′ (p .answered) (q .answered)
+
+  pub window-table-once : out ≡ out′
+  window-table-once = one _ out out′ (p .out-after) (q .out-after)
 
 -- `ledgerfern_read`, at the same text and the same tables
 module _ {text clips₀ tags₀ clips clips′ tags tags′ : List ℕ} {r r′ : readᵈ.Read} (p : ReadAs text clips₀ tags₀ clips tags r) (q : ReadAs text clips₀ tags₀ clips′ tags′ r′) where

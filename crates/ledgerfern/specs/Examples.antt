@@ -11,7 +11,7 @@ use Rattle.assembly.specs.Assembly.{Head, head, emptyHead}
 use Rattle.playing.specs.Playing.{pair, playing}
 use Rattle.window.specs.Window as window
 use Rattle.ledgerfern.specs.declared.Head as headᵈ
-use Rattle.ledgerfern.specs.Numbers.{verdictNumbers, valueNumbers, onNumbers, playingNumbers, startsNumbers, windowNumbers, typeNumber, headNumbers, readNumbers}
+use Rattle.ledgerfern.specs.Numbers.{verdictNumbers, valueNumbers, onNumbers, playingNumbers, startsNumbers, windowNumbers, windowsNumbers, typeNumber, headNumbers, readNumbers}
 use Rattle.ledgerfern.specs.Heads.{isVersion, isType, isHead, typeFrom, headFrom, headOf}
 
 -- a head of zeros but for its marks
@@ -60,6 +60,9 @@ verdicts = refl
 windows : map (λ w. windowNumbers (given w)) (window.none ∷ window.range 0 0 ∷ [])
     ≡ record { number = 0; place = 0; present = 0; start = 0; end = 0 } ∷ record { number = 0; place = 0; present = 1; start = 0; end = 0 } ∷ []
 windows = refl
+
+all-windows : windowsNumbers (given 3) ∷ windowsNumbers (refused outputShort 0) ∷ [] ≡ record { number = 0; place = 0; clips = 3 } ∷ record { number = 10; place = 0; clips = 0 } ∷ []
+all-windows = refl
 
 -- ---- a version of 0 is there; another text has its span
 abbrev headᵗ : headᵈ.Head

@@ -15,6 +15,7 @@ use Rattle.media.specs.Calls.{Read, read, parseMediaPlaylist, clipsRead, tagsRe
 use Rattle.starts.specs.Table.{startRecords, allStarts}
 use Rattle.playing.specs.Playing.{Pair, pair, Playing, playing}
 use Rattle.window.specs.Window as window
+use Rattle.windows.specs.Table.{windowRecords, allWindows}
 use Rattle.ledgerfern.specs.declared.Verdict as verdictᵈ
 use Rattle.ledgerfern.specs.declared.Head as headᵈ
 use Rattle.ledgerfern.specs.declared.Read as readᵈ
@@ -23,6 +24,7 @@ use Rattle.ledgerfern.specs.declared.On as onᵈ
 use Rattle.ledgerfern.specs.declared.Playing as playingᵈ
 use Rattle.ledgerfern.specs.declared.Starts as startsᵈ
 use Rattle.ledgerfern.specs.declared.Window as windowᵈ
+use Rattle.ledgerfern.specs.declared.Windows as windowsᵈ
 use Rattle.ledgerfern.specs.declared.Written as writtenᵈ
 
 -- a mark: 1 or 0
@@ -98,6 +100,15 @@ windowNumbers a = record {
   start = orZero window.startOf a;
   end = orZero window.endOf a;
 }
+
+-- how many clips' windows were laid
+abbrev pub windowsNumbers : Answer ℕ → windowsᵈ.Windows
+windowsNumbers a = record { number = answerNumber a; place = answerPlace a; clips = orZero (λ n. n) a }
+
+-- and all that the call says: its numbers, and each word of the table after it
+pub record WindowsAs (text t : List ℕ) (n : ℕ) (out₀ out : List ℕ) (r : windowsᵈ.Windows) : Type 0 where
+  pub answered : r ≡ windowsNumbers (allWindows text t n out₀)
+  pub out-after : out ≡ laid (allWindows text t n out₀) (windowRecords text t n) out₀
 
 -- ---- the head: "version, present or not"
 abbrev pub presentNumber : Option ℕ → ℕ

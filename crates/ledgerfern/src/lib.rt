@@ -3,13 +3,12 @@
 // A slice is a pointer and a length. Nothing is kept after a call, and nothing allocated.
 use crate::heads::HeadRes;
 use clock::turns;
-use starts::table;
 ghost use mathlib.Core.Path.{_≡_};
 ghost use Rattle.verdict.specs.Calls.{isMasterPlaylist};
 ghost use Rattle.clock.specs.Calls as clock;
 ghost use Rattle.playing.specs.Playing as playing;
 ghost use Rattle.window.specs.Window as window;
-ghost use Rattle.ledgerfern.specs.Numbers.{verdictNumbers, valueNumbers, windowNumbers, onNumbers, playingNumbers, ReadAs, StartsAs};
+ghost use Rattle.ledgerfern.specs.Numbers.{verdictNumbers, valueNumbers, windowNumbers, onNumbers, playingNumbers, ReadAs, StartsAs, WindowsAs};
 ghost use Rattle.ledgerfern.specs.Write.{WriteAs};
 
 pub mod numbers; // the numbers of an answer
@@ -101,6 +100,14 @@ pub struct Window {
     pub present: u64,
     pub start: u64,
     pub end: u64,
+}
+
+// How many clips' windows were stored.
+#[repr(C)]
+pub struct Windows {
+    pub number: u64,
+    pub place: u64,
+    pub clips: u64,
 }
 
 // Whether a text is a master playlist.
@@ -197,7 +204,7 @@ pub extern "C" fn ledgerfern_starts(
 ) -> Starts
     ensures { λ r. ⌜ StartsAs (now (clips .entry)) «clip_count» rate turn (now (out .entry)) (now (out .exit)) r ⌝ }
 {
-    numbers::of_starts(table::all_starts(clips, clip_count, rate, turn, out))
+    numbers::of_starts(starts::table::all_starts(clips, clip_count, rate, turn, out))
 }
 
 // Which clip is on at a tick, and in which turn.
@@ -223,8 +230,26 @@ pub extern "C" fn ledgerfern_playing_at(
 
 // The byte window of a clip.
 #[no_mangle]
-pub extern "C" fn ledgerfern_window(clip_count: usize, clips: &[u64], clip: usize) -> Window
-    ensures { λ r. ⌜ r ≡ windowNumbers (window.window (now (clips .entry)) «clip_count» clip) ⌝ }
+pub extern "C" fn ledgerfern_window(
+    text: &[u8],
+    clip_count: usize,
+    clips: &[u64],
+    clip: usize,
+) -> Window
+    ensures { λ r. ⌜ r ≡ windowNumbers (window.window (now (text .entry)) (now (clips .entry)) «clip_count» clip) ⌝ }
 {
-    numbers::of_window(window::window(clips, clip_count, clip))
+    numbers::of_window(window::window(text, clips, clip_count, clip))
+}
+
+// The windows of all clips into the lent table, four words a clip: what the call for that clip gives, without the place. A refused call leaves it as it was.
+#[no_mangle]
+pub extern "C" fn ledgerfern_windows(
+    text: &[u8],
+    clip_count: usize,
+    clips: &[u64],
+    out: &mut [u64],
+) -> Windows
+    ensures { λ r. ⌜ WindowsAs (now (text .entry)) (now (clips .entry)) «clip_count» (now (out .entry)) (now (out .exit)) r ⌝ }
+{
+    numbers::of_windows(windows::table::all_windows(text, clips, clip_count, out))
 }

@@ -7,6 +7,7 @@ use crate::Starts;
 use crate::Value;
 use crate::Verdict;
 use crate::Window;
+use crate::Windows;
 use crate::Written;
 use assembly::head;
 use assembly::head::HeadType;
@@ -15,15 +16,15 @@ use leaves::basic_tags::PlaylistType;
 use media::ParseAnswer;
 use playing::Played;
 use playlist::WriteAnswer;
-use starts::table::Laid;
+use tables::Laid;
 use tables::Refusal;
 use verdict::MasterAnswer;
 ghost use mathlib.Core.Path.{_≡_};
+ghost use Rattle.tables.specs.Answers.{laidOf};
 ghost use Rattle.verdict.specs.Answers.{masterAnswer};
 ghost use Rattle.assembly.specs.Answers.{versionOf, headTypeOf, headSeen};
 ghost use Rattle.media.specs.Answers.{parseAnswer};
 ghost use Rattle.clock.specs.Answers as clock;
-ghost use Rattle.starts.specs.Answers.{laidOf};
 ghost use Rattle.playing.specs.Answers.{onOf, playedOf};
 ghost use Rattle.window.specs.Answers as window;
 ghost use Rattle.playlist.specs.Answers.{writeAnswer};
@@ -157,6 +158,24 @@ pub fn of_window(given: window::Answer) -> Window
             present: 1,
             start,
             end,
+        },
+    }
+}
+
+// How many clips' windows were laid; its refusals have no place.
+pub fn of_windows(given: Laid) -> Windows
+    ensures { λ r. ⌜ r ≡ rule.windowsNumbers (laidOf given) ⌝ }
+{
+    match given {
+        Laid::Refused(r) => Windows {
+            number: r.number(),
+            place: 0,
+            clips: 0,
+        },
+        Laid::Given(clips) => Windows {
+            number: 0,
+            place: 0,
+            clips: clips as u64,
         },
     }
 }

@@ -258,19 +258,15 @@ fn call_and_print(
             let given = ledgerfern::ledgerfern_clip_at(clips, words, m.rate, m.at);
             return lines::on(to, waits, given);
         }
-        13 => {
+        _ => {
             let given = ledgerfern::ledgerfern_playing_at(clips, words, m.rate, m.at);
             return lines::playing(to, waits, given);
-        }
-        _ => {
-            let given = ledgerfern::ledgerfern_window(clips, words, m.clip);
-            return lines::window(to, waits, given);
         }
     };
     lines::value(to, waits, op, given)
 }
 
-// Ops 4 to 8, 13 and 28, the calls over a table of clips.
+// Ops 4, 5, 7, 8, 13 and 28, the calls over a table of clips alone.
 pub fn over_clips(
     op: u64,
     s: State,
@@ -334,4 +330,105 @@ pub fn starts(
         &mut out[0..room_end],
     );
     State { input, waits }
+}
+
+// Behind the text: the table, the clip.
+fn window_of_text(
+    s: State,
+    from: &mut [u8; input::ROOM],
+    to: &mut [u8; output::ROOM],
+    text: &[u8],
+    clips: &mut [u64],
+) -> State {
+    let waits = s.waits;
+    let table = take_table(s.input, from, clips);
+    let clip_end = table.words;
+    let clip = input::number(table.input, STDIN_FILENO, from);
+    let input = clip.rest;
+    let stop = input.stop;
+    if stop.happened() {
+        return State { input, waits };
+    }
+    let given = ledgerfern::ledgerfern_window(
+        text,
+        table.entries,
+        &clips[0..clip_end],
+        clip.value as usize,
+    );
+    let waits = lines::window(to, waits, given);
+    State { input, waits }
+}
+
+pub fn window(
+    s: State,
+    from: &mut [u8; input::ROOM],
+    to: &mut [u8; output::ROOM],
+    text: &mut [u8],
+    clips: &mut [u64],
+) -> State {
+    let waits = s.waits;
+    let bytes = input::bytes(s.input, STDIN_FILENO, from, text);
+    let length = bytes.count;
+    let input = bytes.rest;
+    let next = State { input, waits };
+    window_of_text(next, from, to, &text[0..length], clips)
+}
+
+// The table of windows is printed as the call leaves it.
+fn windows_and_print(
+    to: &mut [u8; output::ROOM],
+    waits: Waits,
+    text: &[u8],
+    clips: usize,
+    words: &[u64],
+    out: &mut [u64],
+) -> Waits {
+    let given = ledgerfern::ledgerfern_windows(text, clips, words, out);
+    lines::windows(to, waits, given, out)
+}
+
+// Behind the text: both tables.
+fn windows_of_text(
+    s: State,
+    from: &mut [u8; input::ROOM],
+    to: &mut [u8; output::ROOM],
+    text: &[u8],
+    clips: &mut [u64],
+    out: &mut [u64],
+) -> State {
+    let waits = s.waits;
+    let table = take_table(s.input, from, clips);
+    let clip_end = table.words;
+    let room = input::numbers(table.input, STDIN_FILENO, from, out);
+    let room_end = room.count;
+    let input = room.rest;
+    let stop = input.stop;
+    if stop.happened() {
+        return State { input, waits };
+    }
+    let waits = windows_and_print(
+        to,
+        waits,
+        text,
+        table.entries,
+        &clips[0..clip_end],
+        &mut out[0..room_end],
+    );
+    State { input, waits }
+}
+
+pub fn windows(
+    s: State,
+    from: &mut [u8; input::ROOM],
+    to: &mut [u8; output::ROOM],
+    text: &mut [u8],
+    clips: &mut [u64],
+    out: &mut [u64],
+) -> State {
+    let waits = s.waits;
+    let bytes = input::bytes(s.input, STDIN_FILENO, from, text);
+    let length = bytes.count;
+    let input = bytes.rest;
+    let next = State { input, waits };
+    windows_of_text(next, from, to, &text[0..length], clips, out)
 }

@@ -8,6 +8,7 @@ use ledgerfern::Starts;
 use ledgerfern::Value;
 use ledgerfern::Verdict;
 use ledgerfern::Window;
+use ledgerfern::Windows;
 use ledgerfern::Written;
 use libc::STDOUT_FILENO;
 use output::ROOM;
@@ -108,6 +109,13 @@ pub fn window(to: &mut [u8; ROOM], waits: Waits, r: Window) -> Waits {
         r.place,
         &[r.present, r.start, r.end],
     );
+    end_line(to, waits)
+}
+
+// The answer of the call for all windows, and the table as the call left it.
+pub fn windows(to: &mut [u8; ROOM], waits: Waits, r: Windows, out: &[u64]) -> Waits {
+    let waits = answer(to, waits, 29, r.number, r.place, &[r.clips]);
+    let waits = words(to, waits, out);
     end_line(to, waits)
 }
 

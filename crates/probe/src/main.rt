@@ -5,12 +5,13 @@
 //   3 writer              text, the head's eleven numbers, number of clips, clip words, number of tags, tag words, output
 //   4 total               number of clips, clip words
 //   5 start tick          number of clips, clip words, rate, turn, clip
-//   6 window              number of clips, clip words, clip
+//   6 window              text, number of clips, clip words, clip
 //   7 ticks of a clip     as 5
 //   8 clip at a tick      number of clips, clip words, rate, tick
 //  13 since and left      as 8
 //  14 all starts          number of clips, clip words, rate, turn, words of the table of starts
 //  28 start in ns         number of clips, clip words, clip
+//  29 all windows         text, number of clips, clip words, words of the table of windows
 // A number has eight bytes, the lowest first; a text or words are their count, a number, and then so many bytes or numbers.
 use input::Input;
 use input::Stop;
@@ -64,8 +65,10 @@ fn call(
         1 => calls::verdict(s, from, to, text),
         2 => calls::reader(s, from, to, text, clips, tags),
         3 => calls::writer(s, from, to, text, clips, tags, out),
-        4..=8 | 13 | 28 => calls::over_clips(op, s, from, to, clips),
+        4 | 5 | 7 | 8 | 13 | 28 => calls::over_clips(op, s, from, to, clips),
+        6 => calls::window(s, from, to, text, clips),
         14 => calls::starts(s, from, to, clips, tags),
+        29 => calls::windows(s, from, to, text, clips, tags),
         _ => return Step::Last(lines::text(to, waits, b"unknown op\n")),
     };
     after_record(next, to)

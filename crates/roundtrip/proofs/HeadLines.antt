@@ -9,6 +9,7 @@ use Rattle.text.specs.Nom.{ok, span, spanOr, bytes, isNoneOf, tagged, begins, i
 use Rattle.text.specs.Util.{number, numberOrZero}
 use Rattle.text.specs.BasicTags.{extTag, event, vod, other, playlistType}
 use Rattle.text.proofs.Ahead.{Every, Stops, typed, on, in-ahead, comment-ahead, type-ahead, shows}
+use Rattle.text.proofs.Spans.{spells-own}
 use Rattle.digits.specs.Digits.{numberText}
 use Rattle.tags.specs.Tags.{version, targetDuration, mediaSequence, discontinuitySequence, iFramesOnly, independentSegments, endList, discontinuity, HeadTag, ofHead, ofClip, comment, playlistTag, segmentTag, otherTag, mediaSegmentTag, mediaPlaylistTag, took, step, literal, discontinuityRow, discontinuitySequenceRow, endListRow, iFramesOnlyRow, independentSegmentsRow, mediaSequenceRow, playlistTypeRow, targetDurationRow, versionRow}
 use Rattle.tags.specs.Tags as tags
@@ -17,7 +18,6 @@ use Rattle.records.specs.Same.{eventShown, vodShown, otherShown, shownType}
 use Rattle.playlist.specs.Lines.{headerLine, independentSegmentsLine, iFramesOnlyLine, discontinuityLine, endListLine, versionLine, targetDurationLine, mediaSequenceLine, discontinuitySequenceLine, playlistTypeLine, lineBytes}
 use Rattle.roundtrip.specs.Premises.{all}
 use Rattle.roundtrip.proofs.Said.{saysType, typeSays, Some}
-use Rattle.roundtrip.proofs.Words.{spells-own}
 use Rattle.roundtrip.proofs.Steps.{TakesLine, every-all, step-leaves, step-takes, part-leaves, part-takes, at-version, at-target, at-sequence, at-discontinuity-sequence, at-type, at-i-frames, at-independent, at-end, at-discontinuity}
 use Rattle.roundtrip.proofs.Numbers.{no-digit-lf, number-back, number-or-zero-back}
 

@@ -47,8 +47,6 @@ pub mod Premised
 pub mod Spelled
 -- an accepted reading, part by part
 pub mod Accepted
--- a part that spells a word
-pub mod Words
 -- its verdict is media
 pub mod Media
 -- these laws at work

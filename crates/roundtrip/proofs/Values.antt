@@ -1,19 +1,18 @@
 -- What the rules behind a tag give: types, unknown tags, lengths with titles, maps, lines. Each span is a part of the text whose bytes are of the right kind,
 -- between two edges. Assumes nothing.
-use Prim.Native.Nat.{ℕ, _+_, _-_, _≤_, _<_}
-use mathlib.Core.Path.{_≡_, refl, sym, _∙_, ap}
+use Prim.Native.Nat.{ℕ, _-_, _≤_, _<_}
+use mathlib.Core.Path.{_≡_, refl, sym, _∙_}
 use mathlib.Core.Bool.{Bool, true, false, cond, not, _||_}
 use mathlib.Core.List.{List, [], _∷_}
 use mathlib.Core.Option.{Option, none, some}
 use native.Mathlib.Omega.{arith}
-use lib.ListN.{length, take, drop, length-drop, take-append-drop}
-use lib.Seq.{length-take-le}
+use lib.ListN.{length}
 use Rattle.text.specs.Why.{typeEmpty, nameEmpty, missingByte, noUri, uriNotQuoted, rangeNotQuoted, rangeBad, loneCr}
 use Rattle.text.specs.Nom.{Res, fail, ok, Span, span, bytes, isNoneOf, tagged, runEnd, afterTag, spanOr, bind, orElse, orNone, tag, peekNoneOf, takeUntil, isSpace}
 use Rattle.text.specs.Many.{many0, items, stop}
 use Rattle.text.specs.Util.{spells, ByteRange, byteRangeVal, consumeLine}
 use Rattle.text.specs.BasicTags.{ExtTag, ext, extTag, commentTag, PlaylistType, event, vod, other, fromStr, playlistType}
-use Rattle.text.proofs.Ahead.{spells-ahead}
+use Rattle.text.proofs.Spans.{spells-shown}
 use Rattle.text.proofs.Takes.{fail-not-ok}
 use Rattle.attributes.specs.Pairs.{QuotedOrUnquoted, bare, inQuotes, Pair, pair, quoted, unquoted, keyValuePair, nextPair, inserted, get}
 use Rattle.attributes.specs.ExtMap.{Map, extMap, uriOf, begun, rangeOf, extmap}
@@ -26,19 +25,10 @@ use Rattle.text.specs.Spans.{shown, sameBytes}
 use Rattle.records.specs.Same.{otherShown}
 use Rattle.records.proofs.Back.{All}
 use Rattle.roundtrip.proofs.Said.{RangeFits, NumbersFit, typeSays}
-use Rattle.roundtrip.proofs.Words.{spells-own}
 use Rattle.roundtrip.proofs.Edges.{Edge, before, none-of-ends, after-ends}
 use Rattle.roundtrip.proofs.Gives.{If, Gives, Any, gives-any, gives-done, gives-when, gives-alt, gives-opt, gives-bind, many-gives, Shows, Ends, Stopped, gives-tag, run-shows, gives-is-not, span-or-shows, gives-one, gives-digits, Cut, gives-range}
 
 -- ---- a type
--- a part of the text spells a word by the bytes that it shows
-pub spells-shown : (text : List ℕ) (a e : ℕ) → a ≤ e → e ≤ length text → (word : List ℕ) → spells text (span a e) word ≡ sameBytes (shown text (span a e)) word
-spells-shown text a e h k word =
-    let b = take (e - a) (drop a text) in
-    let l : length b ≡ e - a = length-take-le (e - a) (drop a text) (omega (arith, length-drop a text)) in
-    let z : e ≡ a + length b = omega arith in
-    ap (λ (n : ℕ). spells text (span a n) word) z ∙ spells-ahead text a word b (drop (e - a) (drop a text)) (sym (take-append-drop (e - a) (drop a text))) ∙ spells-own b word
-
 module _ (text : List ℕ) where
   abbrev pub SoundType : PlaylistType → Type 0
   SoundType event = Unit {0}

@@ -4,11 +4,12 @@ use mathlib.Core.Bool.{true}
 use mathlib.Core.List.{List}
 use Prim.Native.Nat.{ℕ, _+_, _≤_, _<_}
 use native.Mathlib.Omega.{arith}
-use lib.Dec.{leb, ltb}
+use lib.Dec.{ltb}
 use lib.ListN.{length, take, drop}
-use borrow.Author.Tests.{leb-true, ltb-true, eqb-true}
+use borrow.Author.Tests.{ltb-true, eqb-true}
 use Rattle.text.specs.Spans.{spanFits}
 use Rattle.text.proofs.Laws.{and-left, and-right}
+use Rattle.text.proofs.Spans.{span-within}
 use Rattle.lengths.specs.Binary32.{secondsBits}
 use Rattle.tables.specs.Layout as layout
 use Rattle.tables.specs.Table.{every, listed, clipsFit, tagsFit, clipWord, tagWord}
@@ -26,11 +27,7 @@ pub record SpanKept (text : List ℕ) (start end : ℕ) : Type 0 where
   pub within : end ≤ length text
 
 pub span-kept : (text : List ℕ) (start end : ℕ) → spanFits text start end ≡ true → SpanKept text start end
-span-kept text start end e = record {
-  fits = e;
-  ordered = leb-true start end (and-left _ _ e);
-  within = leb-true end (length text) (and-right (leb start end) _ e);
-}
+span-kept text start end e = let w = span-within text start end e in record { fits = e; ordered = w .0; within = w .1 }
 
 -- ---- clip k
 module _ (text t : List ℕ) (k : ℕ) where

@@ -1,8 +1,6 @@
--- No second result fits a public call's promise: each view has a way back, and a lent table has an equation of its own. Rests on `only-one`.
+-- No second result fits a public call's promise: each view has a way back. Rests on `only-one`. Of `all_starts` it is `laid-once` and `out-once` of `tables`.
 -- Assumes nothing.
-use mathlib.Core.Path.{_≡_, refl, sym, ap, _∙_}
-use mathlib.Core.List.{List}
-use Prim.Native.Nat.{ℕ}
+use mathlib.Core.Path.{_≡_, refl, ap}
 use Rattle.tables.specs.Refusal.{Answer, refused, given}
 use Rattle.tables.proofs.Refusals.{named, named-back, only-one}
 use Rattle.starts.specs.declared.Starts as startsᵈ
@@ -11,11 +9,8 @@ use Rattle.starts.specs.declared.Opened as openedᵈ
 use Rattle.starts.specs.declared.Opened.the-variants as openedᵛ
 use Rattle.starts.specs.declared.Step as stepᵈ
 use Rattle.starts.specs.declared.Step.the-variants as stepᵛ
-use Rattle.starts.specs.declared.table.Laid as laidᵈ
-use Rattle.starts.specs.declared.table.Laid.the-variants as laidᵛ
 use Rattle.starts.specs.Starts.{Cursor, cursor, Row, row, Step, done, clip}
-use Rattle.starts.specs.Table.{StartsAs}
-use Rattle.starts.specs.Answers.{openedOf, stepOf, laidOf}
+use Rattle.starts.specs.Answers.{openedOf, stepOf}
 
 -- `Starts::new`
 startsFrom : Cursor → startsᵈ.Starts
@@ -50,20 +45,3 @@ step-back (stepᵛ.Clip r s) = refl
 
 pub step-only : (x : Answer Step) (a b : stepᵈ.Step) → stepOf a ≡ x → stepOf b ≡ x → a ≡ b
 step-only = only-one stepOf stepFrom step-back
-
--- `all_starts`, at the same words and numbers, and the same table
-laidFrom : Answer ℕ → laidᵈ.Laid
-laidFrom (refused r p) = laidᵛ.Refused (named r)
-laidFrom (given n) = laidᵛ.Given n
-
-laid-back : (a : laidᵈ.Laid) → laidFrom (laidOf a) ≡ a
-unfolding laidFrom
-laid-back (laidᵛ.Refused r) = ap laidᵛ.Refused (named-back r)
-laid-back (laidᵛ.Given n) = refl
-
-module _ {t : List ℕ} {n rate turn : ℕ} {out₀ out out′ : List ℕ} {r r′ : laidᵈ.Laid} (p : StartsAs laidOf t n rate turn out₀ out r) (q : StartsAs laidOf t n rate turn out₀ out′ r′) where
-  pub laid-once : r ≡ r′
-  laid-once = only-one laidOf laidFrom laid-back _ r r′ (p .answered) (q .answered)
-
-  pub out-once : out ≡ out′
-  out-once = p .out-after ∙ sym (q .out-after)

@@ -1,5 +1,4 @@
 -- What each answer of the code says, in the words of the rules. Assumes nothing.
-use Prim.Native.Nat.{ℕ}
 use Rattle.tables.specs.Refusal.{Answer, refused, given}
 use Rattle.tables.specs.Answers.{refusalOf}
 use Rattle.starts.specs.declared.Starts as startsᵈ
@@ -8,8 +7,6 @@ use Rattle.starts.specs.declared.Opened as openedᵈ
 use Rattle.starts.specs.declared.Opened.the-variants as openedᵛ
 use Rattle.starts.specs.declared.Step as stepᵈ
 use Rattle.starts.specs.declared.Step.the-variants as stepᵛ
-use Rattle.starts.specs.declared.table.Laid as laidᵈ
-use Rattle.starts.specs.declared.table.Laid.the-variants as laidᵛ
 use Rattle.starts.specs.Starts.{Cursor, cursor, Row, row, Step, done, clip}
 
 abbrev pub cursorOf : startsᵈ.Starts → Cursor
@@ -26,7 +23,3 @@ abbrev pub stepOf : stepᵈ.Step → Answer Step
 stepOf (stepᵛ.Refused r) = refused (refusalOf r) 0
 stepOf stepᵛ.Done = given done
 stepOf (stepᵛ.Clip r s) = given (clip (rowOf r) (cursorOf s))
-
-abbrev pub laidOf : laidᵈ.Laid → Answer ℕ
-laidOf (laidᵛ.Refused r) = refused (refusalOf r) 0
-laidOf (laidᵛ.Given n) = given n

@@ -2,7 +2,7 @@
 use mathlib.Core.Path.{_≡_, refl}
 use mathlib.Core.List.{List, [], _∷_, map}
 use Prim.Native.Nat.{ℕ}
-use Rattle.tables.specs.Table.{every, fits}
+use Rattle.tables.specs.Table.{every, records, fits}
 use Rattle.tables.specs.Refusal.{given, refused, laid, brokenTable, badRate, turnTooLate, outputShort}
 use Rattle.clock.specs.Clock.{keepsRule, sumLengths, momentOf, tickOf}
 use Rattle.clock.specs.Calls.{timed, atRate, inTurn}
@@ -25,7 +25,7 @@ pass-rows = refl
 
 -- ---- the table: the starts of turn 2 at 100 ticks a second; clip 1 starts at tick 3304
 turn-2 : startRecords sheet 3 100 2 3 ≡ 0 ∷ 2403 ∷ 9009000000 ∷ 3304 ∷ 9013000000 ∷ 3304 ∷ []
-unfolding startRecords sumLengths momentOf tickOf
+unfolding records sumLengths momentOf tickOf
 turn-2 = refl
 
 -- six words are enough, five are not, and a seventh stays as it was
@@ -37,7 +37,7 @@ tables : map after ((7 ∷ 7 ∷ 7 ∷ 7 ∷ 7 ∷ 7 ∷ []) ∷ (7 ∷ 7 ∷ 7 
     ∷ (7 ∷ 7 ∷ 7 ∷ 7 ∷ 7 ∷ [])
     ∷ (0 ∷ 2403 ∷ 9009000000 ∷ 3304 ∷ 9013000000 ∷ 3304 ∷ 7 ∷ [])
     ∷ []
-unfolding allStarts startRecords inTurn atRate timed keepsRule fits every sumLengths momentOf tickOf
+unfolding allStarts records inTurn atRate timed keepsRule fits every sumLengths momentOf tickOf
 tables = refl
 
 -- no clips need no words

@@ -1,10 +1,11 @@
 -- All starts of a turn into a lent table (02, [2]): two words a clip, its start in ns within the turn and its start tick.
 -- Assumes nothing.
-use mathlib.Core.Path.{_≡_}
-use mathlib.Core.List.{List, [], _∷_, _++_}
-use Prim.Native.Nat.{ℕ, zero, suc}
-use Rattle.tables.specs.Table.{startsFit}
-use Rattle.tables.specs.Refusal.{Answer, given, laid, orRefuse, outputShort}
+use mathlib.Core.List.{List, [], _∷_}
+use Prim.Native.Nat.{ℕ}
+use Rattle.tables.specs.Table.{records, startsFit}
+use Rattle.tables.specs.declared.Laid as laidᵈ
+use Rattle.tables.specs.Answers.{LaidAs}
+use Rattle.tables.specs.Refusal.{Answer, given, orRefuse, outputShort}
 use Rattle.clock.specs.Clock.{sumLengths, momentOf, tickOf}
 use Rattle.clock.specs.Calls.{inTurn}
 
@@ -13,9 +14,8 @@ abbrev pub startRecord : List ℕ → ℕ → ℕ → ℕ → ℕ → List ℕ
 startRecord t n rate turn k = sumLengths t k ∷ tickOf (momentOf t n turn k) rate ∷ []
 
 -- and those of the first k, in their order
-unfoldable pub startRecords : List ℕ → ℕ → ℕ → ℕ → ℕ → List ℕ
-startRecords t n rate turn zero = []
-startRecords t n rate turn (suc k) = startRecords t n rate turn k ++ startRecord t n rate turn k
+abbrev pub startRecords : List ℕ → ℕ → ℕ → ℕ → ℕ → List ℕ
+startRecords t n rate turn k = records (startRecord t n rate turn) k
 
 -- 9, 11, 12, 13; then 10, "where the table is too short"; else how many clips there are
 unfoldable pub allStarts : List ℕ → ℕ → ℕ → ℕ → List ℕ → Answer ℕ
@@ -24,7 +24,6 @@ allStarts t n rate turn out =
     (orRefuse (startsFit out n) outputShort 0
     (given n))
 
--- all that the call says: its answer, and each word of the table after it; "refused untouched; words past the last pair unchanged"
-pub record StartsAs {R : Type 0} (view : R → Answer ℕ) (t : List ℕ) (n rate turn : ℕ) (out₀ out : List ℕ) (r : R) : Type 0 where
-  pub answered : view r ≡ allStarts t n rate turn out₀
-  pub out-after : out ≡ laid (allStarts t n rate turn out₀) (startRecords t n rate turn n) out₀
+-- all that the call says: its answer, and each word of the table after it
+abbrev pub StartsAs : List ℕ → ℕ → ℕ → ℕ → List ℕ → List ℕ → laidᵈ.Laid → Type 0
+StartsAs t n rate turn out₀ out r = LaidAs (allStarts t n rate turn out₀) (startRecords t n rate turn n) out₀ out r

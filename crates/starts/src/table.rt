@@ -1,5 +1,6 @@
 // All starts of a turn, into a lent table of two words a clip: its start in ns within the turn, its start tick.
 use clock::Answer;
+use tables::Laid;
 use tables::Refusal;
 use tables::layout;
 use tables::record;
@@ -10,13 +11,6 @@ ghost use Rattle.tables.specs.Table.{startsFit};
 ghost use Rattle.tables.specs.Refusal.{given, laid};
 ghost use Rattle.clock.specs.Clock as clock;
 ghost use Rattle.starts.specs.Table as rule;
-ghost use Rattle.starts.specs.Answers.{laidOf};
-
-// The starts of so many clips were laid, or why none was.
-pub enum Laid {
-    Refused(Refusal),
-    Given(usize),
-}
 
 // The table is long enough, and the whole is that of the words.
 fn lay(words: &[u64], clips: usize, rate: u64, turn: u64, whole: u64, out: &mut [u64])
@@ -35,7 +29,7 @@ fn lay(words: &[u64], clips: usize, rate: u64, turn: u64, whole: u64, out: &mut 
 
 // 9, 11, 12, 13; then 10, where the table has fewer than two words a clip. Where it is refused, no word changes.
 pub fn all_starts(words: &[u64], clips: usize, rate: u64, turn: u64, out: &mut [u64]) -> Laid
-    ensures { λ r. ⌜ rule.StartsAs laidOf (now (words .entry)) clips rate turn (now (out .entry)) (now (out .exit)) r ⌝ }
+    ensures { λ r. ⌜ rule.StartsAs (now (words .entry)) clips rate turn (now (out .entry)) (now (out .exit)) r ⌝ }
 {
     let whole = match clock::in_turn(words, clips, rate, turn) {
         Answer::Refused(r) => return Laid::Refused(r),

@@ -8,7 +8,7 @@ use native.Mathlib.Omega.{arith}
 use lib.ListN.{getD}
 use Rattle.tables.specs.declared.Refusal as refusalᵈ
 use Rattle.tables.specs.declared.Refusal.the-variants as refusalᵛ
-use Rattle.tables.specs.Refusal.{Refusal, textTooLong, notUtf8, noHeader, isMaster, leftOutTag, tooManyDigits, clipTableShort, tagTableShort, brokenTable, outputShort, totalTooLong, badRate, turnTooLate, noSuchClip, windowTooFar, nothingPlays, tickTooLate, numberOf, Answer, refused, given, orRefuse}
+use Rattle.tables.specs.Refusal.{Refusal, textTooLong, notUtf8, noHeader, isMaster, leftOutTag, tooManyDigits, clipTableShort, tagTableShort, brokenTable, outputShort, totalTooLong, badRate, turnTooLate, noSuchClip, windowTooFar, noRangeBefore, nothingPlays, tickTooLate, numberOf, Answer, refused, given, orRefuse}
 use Rattle.tables.specs.Answers.{refusalOf}
 
 -- where one is refused, so is the other, by the same row and at the same place
@@ -81,6 +81,7 @@ named badRate = refusalᵛ.BadRate
 named turnTooLate = refusalᵛ.TurnTooLate
 named noSuchClip = refusalᵛ.NoSuchClip
 named windowTooFar = refusalᵛ.WindowTooFar
+named noRangeBefore = refusalᵛ.NoRangeBefore
 named nothingPlays = refusalᵛ.NothingPlays
 named tickTooLate = refusalᵛ.TickTooLate
 
@@ -100,12 +101,13 @@ named-back refusalᵛ.BadRate = refl
 named-back refusalᵛ.TurnTooLate = refl
 named-back refusalᵛ.NoSuchClip = refl
 named-back refusalᵛ.WindowTooFar = refl
+named-back refusalᵛ.NoRangeBefore = refl
 named-back refusalᵛ.NothingPlays = refl
 named-back refusalᵛ.TickTooLate = refl
 
--- ---- a refusal and its number: 01's rows in order, then 02's; 16 is no row yet
+-- ---- a refusal and its number: 01's rows in order, then 02's
 abbrev rows : List Refusal
-rows = textTooLong ∷ notUtf8 ∷ noHeader ∷ isMaster ∷ leftOutTag ∷ tooManyDigits ∷ clipTableShort ∷ tagTableShort ∷ brokenTable ∷ outputShort ∷ totalTooLong ∷ badRate ∷ turnTooLate ∷ noSuchClip ∷ windowTooFar ∷ windowTooFar ∷ nothingPlays ∷ tickTooLate ∷ []
+rows = textTooLong ∷ notUtf8 ∷ noHeader ∷ isMaster ∷ leftOutTag ∷ tooManyDigits ∷ clipTableShort ∷ tagTableShort ∷ brokenTable ∷ outputShort ∷ totalTooLong ∷ badRate ∷ turnTooLate ∷ noSuchClip ∷ windowTooFar ∷ noRangeBefore ∷ nothingPlays ∷ tickTooLate ∷ []
 
 abbrev pub byNumber : ℕ → Refusal
 byNumber n = getD rows (n - 1) windowTooFar
@@ -126,6 +128,7 @@ by-number badRate = refl
 by-number turnTooLate = refl
 by-number noSuchClip = refl
 by-number windowTooFar = refl
+by-number noRangeBefore = refl
 by-number nothingPlays = refl
 by-number tickTooLate = refl
 
@@ -146,5 +149,6 @@ number-above badRate = omega arith
 number-above turnTooLate = omega arith
 number-above noSuchClip = omega arith
 number-above windowTooFar = omega arith
+number-above noRangeBefore = omega arith
 number-above nothingPlays = omega arith
 number-above tickTooLate = omega arith

@@ -94,6 +94,22 @@ startNs = 0
 abbrev pub startTick : ℕ
 startTick = 1
 
+-- ---- a clip's record in a table of windows (02, [1]): what the call for one clip gives, 0 or the refusal's number, 1 or 0 for a range, start, end
+abbrev pub windowWords : ℕ
+windowWords = 4
+
+abbrev pub windowNumber : ℕ
+windowNumber = 0
+
+abbrev pub windowPresent : ℕ
+windowPresent = 1
+
+abbrev pub windowStart : ℕ
+windowStart = 2
+
+abbrev pub windowEnd : ℕ
+windowEnd = 3
+
 -- ---- flags: 1 range, 2 range offset, 4 discontinuity, 8 map, 16 map range, 32 map offset
 abbrev pub hasRange : ℕ
 hasRange = 1

@@ -36,6 +36,8 @@ pub data Refusal : Type 0 where
   noSuchClip : Refusal
   -- window's end above 2^64 - 1
   windowTooFar : Refusal
+  -- 02, [1]: no offset and no such previous range, here or back along the chain
+  noRangeBefore : Refusal
   -- 02, [2]: no clips or total 0
   nothingPlays : Refusal
   -- 02, [2]: t at or past the start tick of turn 1,000,000
@@ -58,6 +60,7 @@ numberOf badRate = 12
 numberOf turnTooLate = 13
 numberOf noSuchClip = 14
 numberOf windowTooFar = 15
+numberOf noRangeBefore = 16
 numberOf nothingPlays = 17
 numberOf tickTooLate = 18
 

@@ -55,6 +55,17 @@ pub const START_NS: usize = 0;
 
 pub const START_TICK: usize = 1;
 
+// A clip's record in a table of windows (02, [1]): what the call for one clip gives.
+pub const WINDOW_WORDS: usize = 4;
+
+pub const WINDOW_NUMBER: usize = 0;
+
+pub const WINDOW_PRESENT: usize = 1;
+
+pub const WINDOW_START: usize = 2;
+
+pub const WINDOW_END: usize = 3;
+
 // What a clip's flags add up from. A word of flags is below the limit.
 pub const HAS_RANGE: u64 = 1;
 

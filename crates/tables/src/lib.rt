@@ -24,8 +24,15 @@ pub enum Refusal {
     TurnTooLate,
     NoSuchClip,
     WindowTooFar,
+    NoRangeBefore,
     NothingPlays,
     TickTooLate,
+}
+
+// How many records were laid into a lent table, or why none was.
+pub enum Laid {
+    Refused(Refusal),
+    Given(usize),
 }
 
 impl Refusal {
@@ -49,6 +56,7 @@ impl Refusal {
             Refusal::TurnTooLate => 13,
             Refusal::NoSuchClip => 14,
             Refusal::WindowTooFar => 15,
+            Refusal::NoRangeBefore => 16,
             Refusal::NothingPlays => 17,
             Refusal::TickTooLate => 18,
         }

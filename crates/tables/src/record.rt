@@ -31,6 +31,12 @@ pub fn starts_fit(words: &[u64], clips: usize) -> bool
     fits(words, layout::START_WORDS, clips)
 }
 
+pub fn windows_fit(words: &[u64], clips: usize) -> bool
+    ensures { λ r. ⌜ r ≡ rule.windowsFit (now (words .entry)) clips ⌝ }
+{
+    fits(words, layout::WINDOW_WORDS, clips)
+}
+
 // The word at a place of any record, 0 where the table has none. The index is computed only where it is in the table.
 fn edge_word(words: &[u64], width: usize, index: usize, place: usize) -> u64
     requires { ⌜ 0 < width ⌝ }
@@ -132,6 +138,12 @@ pub fn store_start(words: &mut [u64], clip: usize, values: &[u64; layout::START_
     ensures { λ _. ⌜ now (words .exit) ≡ rule.startStored (now (words .entry)) clip (now (values .entry)) ⌝ }
 {
     store(words, layout::START_WORDS, clip, values);
+}
+
+pub fn store_window(words: &mut [u64], clip: usize, values: &[u64; layout::WINDOW_WORDS])
+    ensures { λ _. ⌜ now (words .exit) ≡ rule.windowStored (now (words .entry)) clip (now (values .entry)) ⌝ }
+{
+    store(words, layout::WINDOW_WORDS, clip, values);
 }
 
 // Whether a word of flags holds a flag, one of the layout's.

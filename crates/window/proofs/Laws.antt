@@ -1,72 +1,113 @@
--- The window's answer, way out by way out, and that no second result fits it. Assumes nothing.
-use mathlib.Core.Path.{_≡_, refl, ap}
-use mathlib.Core.Bool.{Bool, true, false}
+-- The rule, way out by way out: rule 9, what the calls weigh first, the same resource, a window by the one before it. Rests on the laws of fronts.
+-- Assumes nothing.
+use mathlib.Core.Path.{_≡_, refl, ap, _∙_}
+use mathlib.Core.Bool.{Bool, true, false, and-eq-true-iff}
 use mathlib.Core.List.{List}
-use Prim.Native.Nat.{ℕ, _+_, _≤_, _<_}
-use lib.Dec.{ltb}
-use borrow.Author.Tests.{le-leb, lt-leb, lt-ltb, le-ltb}
-use Rattle.tables.specs.Layout as layout
-use Rattle.tables.specs.Table.{clipsFit, clipWord, hasFlag}
-use Rattle.tables.specs.Refusal.{Answer, refused, given, brokenTable, noSuchClip, windowTooFar}
-use Rattle.tables.proofs.Refusals.{named, named-back, only-one}
-use Rattle.window.specs.declared.Answer as answerᵈ
-use Rattle.window.specs.declared.Answer.the-variants as answerᵛ
-use Rattle.window.specs.Answers.{answerOf}
-use Rattle.window.specs.Window.{Window, none, range, largestEnd, flagsOf, keepsRule, rangeStart, windowOf, window}
-
-answerFrom : Answer Window → answerᵈ.Answer
-answerFrom (refused r p) = answerᵛ.Refused (named r)
-answerFrom (given none) = answerᵛ.None
-answerFrom (given (range start end)) = answerᵛ.Range start end
-
-answer-back : (a : answerᵈ.Answer) → answerFrom (answerOf a) ≡ a
-unfolding answerFrom
-answer-back (answerᵛ.Refused r) = ap answerᵛ.Refused (named-back r)
-answer-back answerᵛ.None = refl
-answer-back (answerᵛ.Range start end) = refl
-
--- no second result fits `window`'s promise
-pub answer-only : (x : Answer Window) (a b : answerᵈ.Answer) → answerOf a ≡ x → answerOf b ≡ x → a ≡ b
-answer-only = only-one answerOf answerFrom answer-back
+use mathlib.Core.Option.{some}
+use Prim.Native.Nat.{ℕ, zero, suc, _-_, _≤_, _<_}
+use native.Mathlib.Omega.{arith}
+use lib.ListN.{length}
+use lib.Dec.{leb}
+use borrow.Author.Tests.{le-leb, lt-leb, leb-true, le-ltb, lt-ltb}
+use Rattle.text.specs.Spans.{spanIn, shown, sameBytes}
+use Rattle.tables.specs.Table.{every, clipsFit, hasFlag}
+use Rattle.tables.specs.Refusal.{Answer, refused, given, textTooLong, brokenTable, noSuchClip, noRangeBefore}
+use Rattle.tables.proofs.Every.{every-at}
+use Rattle.tables.proofs.Refusals.{Front, front-or, front-then, front-as}
+use Rattle.verdict.specs.Calls.{textLimit}
+use Rattle.window.specs.Window.{Window, none, isSubRange, nOf, hasO, oOf, uriOf, rangeFrom, sameResource, clipKeeps, keepsRule, overClips, windowOf, window}
+use Rattle.window.specs.After.{behind, follows, windowAfter}
 
 -- a flag tested on a copy is the word's own
 pub flag-is : (copy word flag : ℕ) (r : Bool) → copy ≡ word → r ≡ hasFlag copy flag → hasFlag word flag ≡ r
 flag-is copy word flag r e f = cc
 
--- ---- the rule
-module _ (t : List ℕ) (n clip : ℕ) where
-  pub keeps-short : clipsFit t n ≡ false → keepsRule t n clip ≡ false
+-- ---- rule 9
+module _ (text t : List ℕ) (n : ℕ) where
+  pub keeps-short : clipsFit t n ≡ false → keepsRule text t n ≡ false
   unfolding keepsRule
   keeps-short e = rw e
 
-  pub keeps-past : clipsFit t n ≡ true → n ≤ clip → keepsRule t n clip ≡ true
+  pub keeps-each : clipsFit t n ≡ true → keepsRule text t n ≡ every (clipKeeps text t) n
   unfolding keepsRule
-  keeps-past e h = rw (e, le-ltb clip n h)
+  keeps-each e = rw e
 
-  pub keeps-flags : clipsFit t n ≡ true → clip < n → keepsRule t n clip ≡ ltb (flagsOf t clip) layout.flagLimit
-  unfolding keepsRule
-  keeps-flags e h = rw (e, lt-ltb clip n h)
+-- ---- 1, 9
+pub record OverClips (text t : List ℕ) (n : ℕ) : Type 0 where
+  pub short : length text ≤ textLimit
+  pub keeps : keepsRule text t n ≡ true
 
--- ---- the ways out
-module _ (t : List ℕ) (n clip : ℕ) where
-  pub window-9 : keepsRule t n clip ≡ false → window t n clip ≡ refused brokenTable 0
+module _ (text t : List ℕ) (n : ℕ) where
+  pub clips-front : Front (λ A x. overClips text t n x) (OverClips text t n)
+  unfolding overClips
+  clips-front =
+      front-as _
+      (λ h. record { short = leb-true (length text) textLimit (h .0); keeps = h .1 })
+      (λ g. (le-leb (length text) textLimit (g .short), g .keeps))
+      (front-then _ _ (front-or textTooLong 0 (leb (length text) textLimit)) (front-or brokenTable 0 (keepsRule text t n)))
+
+  module _ {A : Type 0} (x : Answer A) where
+    pub clips-1 : textLimit < length text → overClips text t n x ≡ refused textTooLong 0
+    unfolding overClips
+    clips-1 h = rw (lt-leb (length text) textLimit h)
+
+    pub clips-9 : length text ≤ textLimit → keepsRule text t n ≡ false → overClips text t n x ≡ refused brokenTable 0
+    unfolding overClips
+    clips-9 h e = rw (le-leb (length text) textLimit h, e)
+
+-- each clip of a table that passed
+pub keeps-at : (text t : List ℕ) (n k : ℕ) → OverClips text t n → k < n → clipKeeps text t k ≡ true
+unfolding keepsRule
+keeps-at text t n k g h = every-at (clipKeeps text t) k n h (and-eq-true-iff (clipsFit t n) _ .0 (g .keeps) .1)
+
+-- ---- "same URI bytes"
+module _ (text t : List ℕ) (a b : ℕ) where
+  pub other-first : spanIn text (uriOf t a) ≡ false → sameResource text t a b ≡ false
+  unfolding sameResource
+  other-first e = rw e
+
+  pub other-second : spanIn text (uriOf t a) ≡ true → spanIn text (uriOf t b) ≡ false → sameResource text t a b ≡ false
+  unfolding sameResource
+  other-second e f = rw (e, f)
+
+  pub same-bytes : spanIn text (uriOf t a) ≡ true → spanIn text (uriOf t b) ≡ true → sameResource text t a b ≡ sameBytes (shown text (uriOf t a)) (shown text (uriOf t b))
+  unfolding sameResource
+  same-bytes e f = rw (e, f)
+
+-- before the first clip there is none
+pub follows-none : (text t : List ℕ) (clip : ℕ) → clip ≡ 0 → follows text t clip ≡ false
+follows-none text t zero e = refl
+follows-none text t (suc k) e = absurd (omega arith)
+
+pub follows-last : (text t : List ℕ) (clip : ℕ) → (clip ≡ 0 → ⊥) → follows text t clip ≡ sameResource text t (clip - 1) clip
+follows-last text t zero h = absurd (h refl)
+follows-last text t (suc k) h = let i : k ≡ suc k - 1 = omega arith in ap (λ (a : ℕ). sameResource text t a (suc k)) i
+
+-- ---- a window by the one before it
+module _ (text t : List ℕ) (clip : ℕ) (before : Answer Window) where
+  pub after-none : isSubRange t clip ≡ false → windowAfter text t clip before ≡ given none
+  unfolding windowAfter
+  after-none e = rw e
+
+  module _ (e : isSubRange t clip ≡ true) where
+    pub after-o : hasO t clip ≡ true → windowAfter text t clip before ≡ rangeFrom (some (oOf t clip)) (nOf t clip)
+    unfolding windowAfter
+    after-o o = rw (e, o)
+
+    pub after-16 : hasO t clip ≡ false → follows text t clip ≡ false → windowAfter text t clip before ≡ refused noRangeBefore 0
+    unfolding windowAfter
+    after-16 o f = rw (e, o, f)
+
+    pub after-behind : hasO t clip ≡ false → follows text t clip ≡ true → windowAfter text t clip before ≡ behind before (nOf t clip)
+    unfolding windowAfter
+    after-behind o f = rw (e, o, f)
+
+-- ---- the call, once 1 and 9 are passed
+module _ (text t : List ℕ) (n clip : ℕ) (g : OverClips text t n) where
+  pub window-14 : n ≤ clip → window text t n clip ≡ refused noSuchClip 0
   unfolding window
-  window-9 e = rw e
+  window-14 h = clips-front text t n .on _ g ∙ rw (le-ltb clip n h)
 
-module _ (t : List ℕ) (n clip : ℕ) (k : keepsRule t n clip ≡ true) where
-  pub window-14 : n ≤ clip → window t n clip ≡ refused noSuchClip 0
+  pub window-given : clip < n → window text t n clip ≡ windowOf text t clip
   unfolding window
-  window-14 h = rw (k, le-ltb clip n h)
-
-  pub window-none : clip < n → hasFlag (flagsOf t clip) layout.hasRange ≡ false → window t n clip ≡ given none
-  unfolding window windowOf
-  window-none h f = rw (k, lt-ltb clip n h, f)
-
-  module _ (start length : ℕ) (h : clip < n) (f : hasFlag (flagsOf t clip) layout.hasRange ≡ true) (s : start ≡ rangeStart t clip) (l : length ≡ clipWord t clip layout.rangeLength) where
-    pub window-15 : largestEnd < start + length → window t n clip ≡ refused windowTooFar 0
-    unfolding window windowOf
-    window-15 g = rw (k, lt-ltb clip n h, f, ← s, ← l, lt-leb (start + length) largestEnd g)
-
-    pub window-range : start + length ≤ largestEnd → window t n clip ≡ given (range start (start + length))
-    unfolding window windowOf
-    window-range g = rw (k, lt-ltb clip n h, f, ← s, ← l, le-leb (start + length) largestEnd g)
+  window-given h = clips-front text t n .on _ g ∙ rw (lt-ltb clip n h)

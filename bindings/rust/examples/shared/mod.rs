@@ -7,12 +7,12 @@ use std::ffi::{OsStr, OsString};
 use std::io::{self, Read, Write};
 use std::process;
 
-/// A program's name, how it is called, its two numbers with what they are where they are not given, and what it prints.
-pub struct Program {
+/// A program's name, how it is called, its numbers with what they are where they are not given, and what it prints.
+pub struct Program<const NUMBERS: usize> {
     pub name: &'static str,
     pub usage: &'static str,
-    pub numbers: [(&'static str, u64); 2],
-    pub lines: fn(&[u8], u64, u64) -> Result<String, Refusal>,
+    pub numbers: [(&'static str, u64); NUMBERS],
+    pub lines: fn(&[u8], [u64; NUMBERS]) -> Result<String, Refusal>,
 }
 
 /// A whole word of digits: the sign that `parse` takes besides is none here.
@@ -34,23 +34,26 @@ fn input(file: Option<OsString>) -> Result<Vec<u8>, String> {
     }
 }
 
-impl Program {
-    fn number(&self, which: usize, word: Option<OsString>) -> Result<u64, String> {
-        let (name, default) = self.numbers[which];
-        let value = word.map_or(Ok(default), |word| number(name, &word));
-        value.map_err(|error| format!("{}\n{}", error, self.usage))
+impl<const NUMBERS: usize> Program<NUMBERS> {
+    /// Its numbers, from the words that come first.
+    fn numbers(&self, words: &mut impl Iterator<Item = OsString>) -> Result<[u64; NUMBERS], String> {
+        let mut values = [0; NUMBERS];
+        for (value, (name, default)) in values.iter_mut().zip(self.numbers) {
+            let given = words.next().map_or(Ok(default), |word| number(name, &word));
+            *value = given.map_err(|error| format!("{}\n{}", error, self.usage))?;
+        }
+        Ok(values)
     }
 
     /// Prints the lines, or the refusal; the status to end with.
     fn run(&self) -> Result<i32, Box<dyn Error>> {
         let mut words = std::env::args_os().skip(1);
-        let first = self.number(0, words.next())?;
-        let second = self.number(1, words.next())?;
+        let numbers = self.numbers(&mut words)?;
         let text = input(words.next())?;
         if words.next().is_some() {
             return Err(self.usage.into());
         }
-        let (lines, status) = match (self.lines)(&text, first, second) {
+        let (lines, status) = match (self.lines)(&text, numbers) {
             Ok(lines) => (lines, 0),
             Err(refusal) => (format!("{}\n", refusal), 1),
         };

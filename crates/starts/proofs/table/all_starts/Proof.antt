@@ -4,11 +4,12 @@ use mathlib.Core.Path.{refl, sym, ap, _∙_}
 use borrow.Author.Needs.{needs}
 use borrow.Author.Tests.{not-true, not-false}
 use Rattle.tables.proofs.Refusals.{given-refuses}
+use Rattle.tables.proofs.Laying.{as-refused, as-given}
 use Rattle.clock.specs.Answers.{answerOf}
 use Rattle.clock.proofs.Calls.{turn-front}
 use Rattle.clock.proofs.Results.{Whole, turn-result}
 use Rattle.starts.specs.Table.{allStarts}
-use Rattle.starts.proofs.Laying.{starts-10, starts-given, as-refused, as-given}
+use Rattle.starts.proofs.Laying.{starts-10, starts-given}
 use Rattle.starts.proofs.table.all_starts.Statement.{statement}
 use Rattle.starts.proofs.table.all_starts.Tie as tie
 
@@ -26,7 +27,7 @@ returns : tie.Need-returns
 unfolding allStarts
 returns c =
     let e = turn-front _ _ _ _ .refuses _ _ (given-refuses _ _) _ 0 (sym (c .before .before .before .in-turn .ensures) ∙ ap answerOf (c .before .r .given .1)) in
-    as-refused _ _ _ _ _ _ _ _ refl e
+    as-refused _ _ _ _ _ refl e
 
 enum-known-total : tie.Need-enum-known-total
 enum-known-total c = search needs
@@ -38,7 +39,7 @@ same-length : tie.Need-same-length
 same-length c = search needs
 
 returns-2 : tie.Need-returns-2
-returns-2 c = as-refused _ _ _ _ _ _ _ _ refl (starts-10 _ _ _ _ _ (passed (c .before .before .before .before) .on) (sym (c .before .starts-fit .ensures) ∙ not-true _ (c .if1 .taken)))
+returns-2 c = as-refused _ _ _ _ _ refl (starts-10 _ _ _ _ _ (passed (c .before .before .before .before) .on) (sym (c .before .starts-fit .ensures) ∙ not-true _ (c .if1 .taken)))
 
 lay-requires : tie.Need-lay-requires
 lay-requires c κs =
@@ -51,7 +52,7 @@ same-length-2 c = search needs
 returns-3 : tie.Need-returns-3
 returns-3 c =
     let e = starts-given _ _ _ _ _ (passed (c .before .before .before .before .before .before .before .before) .on) (sym (c .before .before .before .before .before .starts-fit .ensures) ∙ not-false _ (c .before .before .before .before .if1 .left)) in
-    as-given _ _ _ _ _ _ _ _ refl e (c .before .before .lay .ensures)
+    as-given _ _ _ _ _ _ refl e (c .before .before .lay .ensures)
 
 pub all-starts-spec : {M : Type 1} → statement M
 all-starts-spec =

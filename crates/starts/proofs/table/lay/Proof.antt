@@ -4,28 +4,28 @@ use borrow.Author.Needs.{needs}
 use native.Mathlib.Omega.{arith}
 use Prim.Native.Nat.{_+_, _-_, _≤_}
 use mathlib.Core.Path.{_≡_, refl, sym, ap, _∙_}
-use mathlib.Core.List.{_++_}
-use lib.ListN.{length, drop}
+use lib.ListN.{length}
 use Rattle.tables.specs.Layout.{startWords}
 use Rattle.tables.proofs.Sets.{stored-length}
+use Rattle.tables.proofs.Laying.{laidTo, records-none}
 use Rattle.clock.specs.Clock.{sumLengths}
 use Rattle.clock.proofs.Lengths.{sum-step, sum-mono}
 use Rattle.clock.proofs.Moments.{tick-in-reach}
-use Rattle.starts.specs.Table.{startRecords}
-use Rattle.starts.proofs.Laying.{records-none, record-next}
+use Rattle.starts.specs.Table.{startRecord}
+use Rattle.starts.proofs.Laying.{record-next}
 use Rattle.starts.proofs.table.lay.Statement.{statement}
 use Rattle.starts.proofs.table.lay.Tie as tie
 
 abbrev Inv-loop : tie.InvT-loop
 Inv-loop words clips rate turn whole out₀ before₀ k₀ out before k =
-    (k ≤ clips) × (length out ≡ length out₀) × (before ≡ sumLengths words k) × (out ≡ startRecords words clips rate turn k ++ drop (length (startRecords words clips rate turn k)) out₀)
+    (k ≤ clips) × (length out ≡ length out₀) × (before ≡ sumLengths words k) × (out ≡ laidTo (startRecord words clips rate turn) k out₀)
 
 abbrev μ-loop : tie.MeasureT-loop
 μ-loop words clips rate turn whole out₀ before₀ k₀ out before k = clips - k
 
 loop-holds : tie.Need-loop-holds Inv-loop μ-loop
 unfolding sumLengths
-loop-holds c = (omega arith, refl, omega arith, sym (records-none _ _ _ _ _))
+loop-holds c = (omega arith, refl, omega arith, sym (records-none _ _))
 
 tick-at-requires : tie.Need-tick-at-requires Inv-loop μ-loop
 tick-at-requires c κs = search needs
