@@ -8,12 +8,10 @@ use native.Mathlib.Nat.{le-refl, add-zero}
 use native.Mathlib.Decide.{decLe}
 use native.Mathlib.Omega.{arith}
 use lib.Dec.{leb, eqb}
-use borrow.Author.Tests.{ne-eqb, leb-true}
+use borrow.Author.Tests.{ne-eqb, leb-true, le-leb}
 use lib.ListN.{length, getD}
-use Rattle.text.specs.Nom.{bytes, isOneOf, isNoneOf, runEnd}
-use Rattle.text.specs.Utf8.{utf8End}
+use Rattle.text.specs.Nom.{bytes, isAscii, isOneOf, isNoneOf, runEnd}
 use Rattle.text.proofs.Laws.{and-left, and-right, or-false, run-step}
-use Rattle.blocks.proofs.Chars.{ascii, end-step}
 
 -- each place from a on and before b
 abbrev pub All : (ℕ → Type 0) → ℕ → ℕ → Type 0
@@ -84,6 +82,6 @@ module _ (text : List ℕ) (a b : ℕ) (m : a ≤ b) where
       above : (x : ℕ) → 14 ≤ x → isNoneOf (bytes "\r\n") x ≡ true
       above x k = rw (ne-eqb 13 x (λ e. omega arith), ne-eqb 10 x (λ e. omega arith))
 
-  -- characters past bytes below 0x80
-  pub ascii-on : All (There 0 0x7F text) a b → utf8End text a ≡ utf8End text b
-  ascii-on h = same (utf8End text) a b m (λ j n l. end-step text j 1 (ascii text j (h j n l .0) (omega (arith, h j n l .1 .1))) (λ e. omega arith))
+  -- ASCII past bytes below 0x80
+  pub ascii-on : All (There 0 0x7F text) a b → runEnd isAscii text a ≡ runEnd isAscii text b
+  ascii-on h = run-on isAscii (λ j n l. (h j n l .0, le-leb (getD text j 0) 0x7F (h j n l .1 .1)))

@@ -1,3 +1,1 @@
--- what the code's answers say in the words of the rules
-pub mod Answers
 pub mod Inside

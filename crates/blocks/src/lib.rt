@@ -1,14 +1,13 @@
-// What is found by many bytes at once: a line's end, the end of a run of blanks, UTF-8. Where the blocks end, the scans of `scan` go on byte by byte, so that
-// each answer is the rule's own.
+// What is found by many bytes at once: a line's end, the end of a run of blanks or of ASCII. Where the blocks end, a scan goes on byte by byte, so that each
+// answer is the rule's own.
 ghost use mathlib.Core.Path.{_≡_};
 ghost use mathlib.Core.Bool.{true};
 ghost use mathlib.Core.List.{[], _∷_};
 ghost use Prim.Native.Nat.{ℕ, _+_, _≤_, _<_};
 ghost use lib.ListN.{length, getD};
-ghost use Rattle.text.specs.Nom.{bytes, isOneOf, isNoneOf, runEnd, isMultispace};
+ghost use Rattle.text.specs.Nom.{bytes, isAscii, isOneOf, isNoneOf, runEnd, isMultispace};
 
 mod word; // eight bytes at once
-pub mod utf8; // RFC 3629
 
 // Whether each of the `size` bytes at `at` is one from `lo` to `hi`. All of them are looked at, with no way out before the last,
 // so that the compiler takes many at once.
@@ -28,7 +27,7 @@ fn block_within(text: &[u8], at: usize, size: usize, lo: u8, hi: u8) -> bool
 }
 
 // Past the blocks of `size` bytes from `at` on whose bytes are from `lo` to `hi`.
-pub(crate) fn within_end(text: &[u8], at: usize, size: usize, lo: u8, hi: u8) -> usize
+fn within_end(text: &[u8], at: usize, size: usize, lo: u8, hi: u8) -> usize
     requires { ⌜ 0 < size ⌝ }
     ensures { λ r. ⌜ (at ≤ r) × ((j : ℕ) → at ≤ j → j < r → (j < length (now (text .entry))) × ((lo ≤ getD (now (text .entry)) j 0) × (getD (now (text .entry)) j 0 ≤ hi))) ⌝ }
 {
@@ -67,6 +66,38 @@ pub fn line_end(text: &[u8], at: usize) -> usize
     let blocks = line_blocks_end(text, at);
     let words = word::above_cr_end(text, blocks);
     scan::until_two(text, words, b'\r', b'\n')
+}
+
+// How many ASCII bytes are passed in one go.
+const ASCII_BLOCK: usize = 64;
+
+const LAST_ASCII: u8 = 0x7F;
+
+// Past the blocks of ASCII bytes from `at` on.
+fn ascii_blocks_end(text: &[u8], at: usize) -> usize
+    ensures { λ r. ⌜ runEnd isAscii (now (text .entry)) at ≡ runEnd isAscii (now (text .entry)) r ⌝ }
+{
+    within_end(text, at, ASCII_BLOCK, 0x00, LAST_ASCII)
+}
+
+// Past ASCII bytes. In other alphabets most runs of them are empty, and the first byte tells so at once.
+pub fn ascii_end(text: &[u8], at: usize) -> usize
+    ensures { λ r. ⌜ r ≡ runEnd isAscii (now (text .entry)) at ⌝ }
+{
+    if text.len() <= at {
+        return at;
+    }
+    if LAST_ASCII < text[at] {
+        return at;
+    }
+    let mut i = ascii_blocks_end(text, at);
+    while i < text.len() {
+        if LAST_ASCII < text[i] {
+            return i;
+        }
+        i += 1;
+    }
+    i
 }
 
 // Whether each of the `size` bytes at `at` is one of four. All of them are looked at, as in `block_within`.

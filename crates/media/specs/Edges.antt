@@ -6,7 +6,7 @@ use mathlib.Core.List.{List, [], _∷_, _++_, map}
 use mathlib.Core.Option.{none, some}
 use Rattle.text.specs.Nom.{span, bytes, isDigit, begins, tagged, afterTag, run, runEnd, decimal}
 use Rattle.text.specs.Many.{many0, manyTurns}
-use Rattle.text.specs.Utf8.{utf8End, utf8Char, row2, row3, row4, byteIn}
+use Rattle.text.specs.Utf8.{utf8End, utf8Char, oneOf, octets, octet}
 use Rattle.text.specs.Util.{consumeLine, parsed, number, numberOrZero, byteRangeVal, spells}
 use Rattle.text.specs.BasicTags.{extTag, ext, ExtTag, commentTag, playlistType}
 use Rattle.attributes.specs.Pairs.{quoted, unquoted, keyValuePair, nextPair, keyValuePairs, inserted}
@@ -104,5 +104,5 @@ expected =
     ∷ []
 
 pub edges : readings texts ≡ expected
-unfolding readings reading parseMediaPlaylist clipsRead tagsRead firstStep stepsOf stopOf unlessMet next lastOf clipsOf tagsOf clipWordsOf secondsBits tags.step tags.mediaPlaylistTag tags.mediaSegmentTag tags.playlistTag tags.segmentTag tags.otherTag admitted verdictOf verdictFrom firstSaid isMasterPlaylistTagLine masterKind mediaKind playlistKind segmentKind durationTitleTag float counted extmap keyValuePairs nextPair keyValuePair quoted unquoted inserted extTag commentTag playlistType consumeLine parsed number numberOrZero byteRangeVal spells utf8End utf8Char row2 row3 row4 byteIn many0 manyTurns isDigit begins tagged afterTag run runEnd decimal
+unfolding readings reading parseMediaPlaylist clipsRead tagsRead firstStep stepsOf stopOf unlessMet next lastOf clipsOf tagsOf clipWordsOf secondsBits tags.step tags.mediaPlaylistTag tags.mediaSegmentTag tags.playlistTag tags.segmentTag tags.otherTag admitted verdictOf verdictFrom firstSaid isMasterPlaylistTagLine masterKind mediaKind playlistKind segmentKind durationTitleTag float counted extmap keyValuePairs nextPair keyValuePair quoted unquoted inserted extTag commentTag playlistType consumeLine parsed number numberOrZero byteRangeVal spells utf8End utf8Char oneOf octets octet many0 manyTurns isDigit begins tagged afterTag run runEnd decimal
 edges = refl

@@ -5,7 +5,7 @@ use mathlib.Core.Path.{_≡_, refl}
 use mathlib.Core.List.{List, [], _∷_, _++_, map}
 use Rattle.text.specs.Nom.{bytes, isDigit, begins, tagged, afterTag, run, runEnd, decimal}
 use Rattle.text.specs.Many.{many0, manyTurns}
-use Rattle.text.specs.Utf8.{utf8End, utf8Char, row2, row3, row4, byteIn}
+use Rattle.text.specs.Utf8.{utf8End, utf8Char, oneOf, octets, octet}
 use Rattle.text.specs.Util.{consumeLine, parsed, number, numberOrZero, byteRangeVal, spells}
 use Rattle.text.specs.BasicTags.{extTag, commentTag, playlistType}
 use Rattle.attributes.specs.Pairs.{quoted, unquoted, keyValuePair, nextPair, keyValuePairs, inserted}
@@ -50,7 +50,7 @@ everything = refl
 -- ---- "Reader: 1, 2, 3, 4, then 5 or 6 whichever the reading meets first, 7, 8": in texts that also have what later ones refuse
 in-order : map (λ s. parseMediaPlaylist (bytes s) 0 0) ("#EXTM3\n#EXT-X-STREAM-INF\nb" ∷ "#EXTM3U#EXT-X-STREAM-INF\n#EXT-X-KEY:\nb" ∷ "#EXTM3U#EXT-X-KEY:\n#EXTINF:0000000009,\nb" ∷ "#EXTM3U#EXTINF:0000000009,\n#EXT-X-KEY:\nb" ∷ [])
     ≡ refused noHeader 0 ∷ refused isMaster 7 ∷ refused leftOutTag 7 ∷ refused tooManyDigits 7 ∷ []
-unfolding parseMediaPlaylist unlessMet firstStep stepsOf stopOf next lastOf admitted verdictOf verdictFrom firstSaid isMasterPlaylistTagLine masterKind mediaKind playlistKind segmentKind utf8End utf8Char row2 row3 row4 byteIn tags.step tags.mediaPlaylistTag tags.mediaSegmentTag tags.playlistTag tags.segmentTag tags.otherTag durationTitleTag float counted extmap keyValuePairs nextPair keyValuePair quoted unquoted inserted extTag commentTag playlistType consumeLine parsed number numberOrZero byteRangeVal spells many0 manyTurns isDigit begins tagged afterTag run runEnd decimal
+unfolding parseMediaPlaylist unlessMet firstStep stepsOf stopOf next lastOf admitted verdictOf verdictFrom firstSaid isMasterPlaylistTagLine masterKind mediaKind playlistKind segmentKind utf8End utf8Char oneOf octets octet tags.step tags.mediaPlaylistTag tags.mediaSegmentTag tags.playlistTag tags.segmentTag tags.otherTag durationTitleTag float counted extmap keyValuePairs nextPair keyValuePair quoted unquoted inserted extTag commentTag playlistType consumeLine parsed number numberOrZero byteRangeVal spells many0 manyTurns isDigit begins tagged afterTag run runEnd decimal
 in-order = refl
 
 -- 7 and 8: both tables one word too short, then the tags' alone, then neither
@@ -58,5 +58,5 @@ abbrev roomsFor : ℕ → ℕ → Answer Read
 roomsFor = parseMediaPlaylist (bytes "#EXTM3U#EXT-a\nb")
 
 rooms : roomsFor 16 3 ∷ roomsFor 17 3 ∷ roomsFor 17 4 ∷ [] ≡ refused clipTableShort 0 ∷ refused tagTableShort 0 ∷ given (read emptyHead 1 1 15) ∷ []
-unfolding parseMediaPlaylist unlessMet firstStep stepsOf stopOf next lastOf admitted verdictOf verdictFrom firstSaid isMasterPlaylistTagLine masterKind mediaKind playlistKind segmentKind utf8End utf8Char row2 row3 row4 byteIn tags.step tags.mediaPlaylistTag tags.mediaSegmentTag tags.playlistTag tags.segmentTag tags.otherTag durationTitleTag float counted extmap keyValuePairs nextPair keyValuePair quoted unquoted inserted extTag commentTag playlistType consumeLine parsed number numberOrZero byteRangeVal spells many0 manyTurns isDigit begins tagged afterTag run runEnd decimal
+unfolding parseMediaPlaylist unlessMet firstStep stepsOf stopOf next lastOf admitted verdictOf verdictFrom firstSaid isMasterPlaylistTagLine masterKind mediaKind playlistKind segmentKind utf8End utf8Char oneOf octets octet tags.step tags.mediaPlaylistTag tags.mediaSegmentTag tags.playlistTag tags.segmentTag tags.otherTag durationTitleTag float counted extmap keyValuePairs nextPair keyValuePair quoted unquoted inserted extTag commentTag playlistType consumeLine parsed number numberOrZero byteRangeVal spells many0 manyTurns isDigit begins tagged afterTag run runEnd decimal
 rooms = refl

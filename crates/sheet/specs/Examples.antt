@@ -4,7 +4,7 @@ use mathlib.Core.Path.{_≡_, refl}
 use mathlib.Core.List.{List, [], _∷_, map}
 use Rattle.text.specs.Nom.{bytes, isDigit, begins, tagged, afterTag, run, runEnd, decimal}
 use Rattle.text.specs.Many.{many0, manyTurns}
-use Rattle.text.specs.Utf8.{utf8End, utf8Char, byteIn}
+use Rattle.text.specs.Utf8.{utf8End, utf8Char, oneOf, octets, octet}
 use Rattle.text.specs.Util.{consumeLine}
 use Rattle.text.specs.BasicTags.{extTag, commentTag}
 use Rattle.lengths.specs.Duration.{counted, float, durationTitleTag}
@@ -37,5 +37,5 @@ expected =
     ∷ []
 
 sheets : map sheetText texts ≡ expected
-unfolding sheetText readSheet sheetOf totalOf clipLines totalLine clipLine refusedLine field numberLine tickOf numberText digitsBy parseMediaPlaylist clipsRead firstStep stepsOf stopOf unlessMet next lastOf clipsOf tags.step tags.mediaPlaylistTag tags.mediaSegmentTag tags.playlistTag tags.segmentTag tags.otherTag admitted verdictOf verdictFrom firstSaid isMasterPlaylistTagLine masterKind mediaKind playlistKind segmentKind durationTitleTag float counted extTag commentTag consumeLine utf8End utf8Char byteIn many0 manyTurns isDigit begins tagged afterTag run runEnd decimal
+unfolding sheetText readSheet sheetOf totalOf clipLines totalLine clipLine refusedLine field numberLine tickOf numberText digitsBy parseMediaPlaylist clipsRead firstStep stepsOf stopOf unlessMet next lastOf clipsOf tags.step tags.mediaPlaylistTag tags.mediaSegmentTag tags.playlistTag tags.segmentTag tags.otherTag admitted verdictOf verdictFrom firstSaid isMasterPlaylistTagLine masterKind mediaKind playlistKind segmentKind durationTitleTag float counted extTag commentTag consumeLine utf8End utf8Char oneOf octets octet many0 manyTurns isDigit begins tagged afterTag run runEnd decimal
 sheets = refl

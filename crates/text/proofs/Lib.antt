@@ -10,6 +10,8 @@ pub mod Takes
 pub mod Local
 -- a rule where the bytes ahead are known
 pub mod Ahead
+-- the rows of RFC 3629
+pub mod Utf8
 -- spans, and a part that spells a word
 pub mod Spans
 -- a line that begins with no blank

@@ -12,7 +12,6 @@ use borrow.Author.Tests.{ltb-true, ltb-false, eqb-true, eq-eqb}
 use Rattle.text.specs.Why.{Why, otherText, noDigits, missingByte, typeEmpty, nameEmpty, tooLarge, loneCr}
 use Rattle.text.specs.Nom.{Res, fail, ok, Parser, Span, span, bytes, isDigit, isNoneOf, isOneOf, tagged, afterTag, runEnd, when, orElse, orNone, bind, tag, optTag, takeWhile1, isNot, optIsNot, skip, take1, peekNoneOf, takeUntil, digit1, notLineEnding, opt, alt, done, place, verify, map, preceded, _>>=_, multispace0, space0, peekTake1}
 use Rattle.text.specs.Many.{many0, manyTurns, goOn, stop, collected, Many, many}
-use Rattle.text.specs.Utf8.{byteIn, row2, row3, row4, utf8Char, utf8End}
 use Rattle.text.specs.Util.{consumeLine, Parsed, fits, large, parse, parsed, orFail, orZero, number, numberOrZero, range, byteRangeVal}
 use Rattle.text.specs.BasicTags.{m3uTag, ext, extTag, commentTag, playlistType, fromStr}
 use Rattle.text.proofs.Laws.{run-from, run-within, run-step, run-stop, tagged-within, tagged-byte, and-left}
@@ -192,52 +191,6 @@ module _ {A : Type 0} (k : ℕ) where
 
     pub takes-many : Takes 0 (λ text at. collected (many0 p text at))
     takes-many text at n a e = rw (← stop-collected (many0 p text at) a n e) (many-went text at)
-
--- ---- UTF-8
-pub takes-byte : (lo hi : ℕ) → Takes 1 (byteIn lo hi)
-unfolding byteIn
-takes-byte lo hi text at n a =
-    let b = leb lo (getD text at 0) && leb (getD text at 0) hi in
-    when-went 1 text at n a (ltb at (length text) && b) missingByte tt (at + 1) (λ q. (omega arith, λ h. omega (arith, ltb-true at (length text) (and-left (ltb at (length text)) b q))))
-
-module _ (a b c d : ℕ) where
-  pub takes-row2 : Takes 2 (row2 a b c d)
-  unfolding row2
-  takes-row2 = takes-bind 1 1 (byteIn a b) _ (takes-byte a b) (λ _. takes-byte c d)
-
-  pub takes-row3 : Takes 3 (row3 a b c d)
-  unfolding row3
-  takes-row3 = takes-bind 2 1 (row2 a b c d) _ takes-row2 (λ _. takes-byte 0x80 0xBF)
-
-  takes-row4 : Takes 4 (row4 a b c d)
-  unfolding row4
-  takes-row4 = takes-bind 3 1 (row3 a b c d) _ takes-row3 (λ _. takes-byte 0x80 0xBF)
-
-  any2 : Takes 1 (row2 a b c d)
-  any2 = takes-less 1 2 (omega arith) (row2 a b c d) takes-row2
-
-  any3 : Takes 1 (row3 a b c d)
-  any3 = takes-less 1 3 (omega arith) (row3 a b c d) takes-row3
-
-  any4 : Takes 1 (row4 a b c d)
-  any4 = takes-less 1 4 (omega arith) (row4 a b c d) takes-row4
-
-pub takes-utf8-char : Takes 1 utf8Char
-unfolding utf8Char
-takes-utf8-char =
-    takes-alt 1 _ _ (takes-byte 0x00 0x7F)
-    (takes-alt 1 _ _ (any2 0xC2 0xDF 0x80 0xBF)
-    (takes-alt 1 _ _ (any3 0xE0 0xE0 0xA0 0xBF)
-    (takes-alt 1 _ _ (any3 0xE1 0xEC 0x80 0xBF)
-    (takes-alt 1 _ _ (any3 0xED 0xED 0x80 0x9F)
-    (takes-alt 1 _ _ (any3 0xEE 0xEF 0x80 0xBF)
-    (takes-alt 1 _ _ (any4 0xF0 0xF0 0x90 0xBF)
-    (takes-alt 1 _ _ (any4 0xF1 0xF3 0x80 0xBF)
-    (any4 0xF4 0xF4 0x80 0x8F))))))))
-
-pub utf8-went : (text : List ℕ) (at : ℕ) → Went 0 text at (utf8End text at)
-unfolding utf8End
-utf8-went = many-went 1 utf8Char takes-utf8-char
 
 -- ---- Util
 abbrev lineBreak : Parser (Option (Unit {0}))

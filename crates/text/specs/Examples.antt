@@ -8,26 +8,42 @@ use lib.ListN.{replicate}
 use Rattle.text.specs.Why.{otherText, noDigits, tooLarge, missingByte, typeEmpty, nameEmpty, loneCr}
 use Rattle.text.specs.Nom.{fail, ok, span, bytes, isDigit, begins, tagged, afterTag, run, runEnd, decimal}
 use Rattle.text.specs.Many.{many0, manyTurns}
-use Rattle.text.specs.Utf8.{utf8End, utf8Char, row2, row3, row4, byteIn}
+use Rattle.text.specs.Utf8.{utf8End, utf8Char, oneOf, octets, octet}
 use Rattle.text.specs.Util.{consumeLine, parsed, number, numberOrZero, byteRangeVal, range, spells}
 use Rattle.text.specs.BasicTags.{m3uTag, extTag, ext, commentTag, playlistType, event, vod, other}
 
 -- ---- UTF-8
-euro : utf8End (0x61 ∷ 0xE2 ∷ 0x82 ∷ 0xAC ∷ 0x62 ∷ []) 0 ≡ 5
-unfolding utf8End many0 manyTurns utf8Char row2 row3 row4 byteIn
-euro = refl
+-- RFC 3629, section 7, "Examples": A<NOT IDENTICAL TO><ALPHA>., the Korean "hangugeo", the Japanese "nihongo", and U+233B4 behind a byte order mark
+rfc-texts :
+    (utf8End (0x41 ∷ 0xE2 ∷ 0x89 ∷ 0xA2 ∷ 0xCE ∷ 0x91 ∷ 0x2E ∷ []) 0 ≡ 7)
+    × (utf8End (0xED ∷ 0x95 ∷ 0x9C ∷ 0xEA ∷ 0xB5 ∷ 0xAD ∷ 0xEC ∷ 0x96 ∷ 0xB4 ∷ []) 0 ≡ 9)
+    × (utf8End (0xE6 ∷ 0x97 ∷ 0xA5 ∷ 0xE6 ∷ 0x9C ∷ 0xAC ∷ 0xE8 ∷ 0xAA ∷ 0x9E ∷ []) 0 ≡ 9)
+    × (utf8End (0xEF ∷ 0xBB ∷ 0xBF ∷ 0xF0 ∷ 0xA3 ∷ 0x8E ∷ 0xB4 ∷ []) 0 ≡ 7)
+unfolding utf8End many0 manyTurns utf8Char oneOf octets octet
+rfc-texts = (refl, refl, refl, refl)
 
-surrogate : utf8End (0x61 ∷ 0xED ∷ 0xA0 ∷ 0x80 ∷ []) 0 ≡ 1
-unfolding utf8End many0 manyTurns utf8Char row2 row3 row4 byteIn
-surrogate = refl
+-- RFC 3629, section 10: "the two-octet sequence C0 80", "2F C0 AE 2E 2F"
+rfc-illegal : (utf8End (0xC0 ∷ 0x80 ∷ []) 0 ≡ 0) × (utf8End (0x2F ∷ 0xC0 ∷ 0xAE ∷ 0x2E ∷ 0x2F ∷ []) 0 ≡ 1)
+unfolding utf8End many0 manyTurns utf8Char oneOf octets octet
+rfc-illegal = (refl, refl)
 
-overlong : utf8End (0xC0 ∷ 0x80 ∷ []) 0 ≡ 0
-unfolding utf8End many0 manyTurns utf8Char row2 row3 row4 byteIn
-overlong = refl
+-- each bound of a second byte that is not a tail's, on both sides: below U+0800 and U+10000 two and three bytes are enough, D800 to DFFF are surrogates, and
+-- 10FFFF is the last character
+e0-from : (utf8End (0xE0 ∷ 0xA0 ∷ 0x80 ∷ []) 0 ≡ 3) × (utf8End (0xE0 ∷ 0x9F ∷ 0xBF ∷ []) 0 ≡ 0)
+unfolding utf8End many0 manyTurns utf8Char oneOf octets octet
+e0-from = (refl, refl)
 
-above : utf8End (0xF4 ∷ 0x90 ∷ 0x80 ∷ 0x80 ∷ []) 0 ≡ 0
-unfolding utf8End many0 manyTurns utf8Char row2 row3 row4 byteIn
-above = refl
+ed-upto : (utf8End (0xED ∷ 0x9F ∷ 0xBF ∷ []) 0 ≡ 3) × (utf8End (0xED ∷ 0xA0 ∷ 0x80 ∷ []) 0 ≡ 0)
+unfolding utf8End many0 manyTurns utf8Char oneOf octets octet
+ed-upto = (refl, refl)
+
+f0-from : (utf8End (0xF0 ∷ 0x90 ∷ 0x80 ∷ 0x80 ∷ []) 0 ≡ 4) × (utf8End (0xF0 ∷ 0x8F ∷ 0xBF ∷ 0xBF ∷ []) 0 ≡ 0)
+unfolding utf8End many0 manyTurns utf8Char oneOf octets octet
+f0-from = (refl, refl)
+
+f4-upto : (utf8End (0xF4 ∷ 0x8F ∷ 0xBF ∷ 0xBF ∷ []) 0 ≡ 4) × (utf8End (0xF4 ∷ 0x90 ∷ 0x80 ∷ 0x80 ∷ []) 0 ≡ 0)
+unfolding utf8End many0 manyTurns utf8Char oneOf octets octet
+f4-upto = (refl, refl)
 
 -- RFC 3629, section 4: of each row the lowest and the highest character
 abbrev ends : List (List ℕ) → List ℕ
@@ -55,7 +71,7 @@ corners :
     ∷ (0xF4 ∷ 0x8F ∷ 0xBF ∷ 0xBF ∷ [])
     ∷ [])
     ≡ 1 ∷ 1 ∷ 2 ∷ 2 ∷ 3 ∷ 3 ∷ 3 ∷ 3 ∷ 3 ∷ 3 ∷ 3 ∷ 3 ∷ 4 ∷ 4 ∷ 4 ∷ 4 ∷ 4 ∷ 4 ∷ []
-unfolding utf8End many0 manyTurns utf8Char row2 row3 row4 byteIn
+unfolding utf8End many0 manyTurns utf8Char oneOf octets octet
 corners = refl
 
 -- and with a first byte, a second byte or a tail one below or one above it is none
@@ -86,11 +102,11 @@ beyond :
     ∷ (0xF5 ∷ 0x80 ∷ 0x80 ∷ 0x80 ∷ [])
     ∷ [])
     ≡ replicate 23 0
-unfolding utf8End many0 manyTurns utf8Char row2 row3 row4 byteIn
+unfolding utf8End many0 manyTurns utf8Char oneOf octets octet
 beyond = refl
 
 cut-short : utf8End (0x61 ∷ 0x62 ∷ 0xF0 ∷ 0x9F ∷ []) 0 ≡ 2
-unfolding utf8End many0 manyTurns utf8Char row2 row3 row4 byteIn
+unfolding utf8End many0 manyTurns utf8Char oneOf octets octet
 cut-short = refl
 
 -- ---- numbers

@@ -32,6 +32,10 @@ pub data Span : Type 0 where
 unfoldable pub isDigit : ℕ → Bool
 isDigit b = leb 48 b && leb b 57
 
+-- u8::is_ascii
+abbrev pub isAscii : ℕ → Bool
+isAscii b = leb b 0x7F
+
 abbrev pub isOneOf : List ℕ → ℕ → Bool
 isOneOf [] b = false
 isOneOf (x ∷ xs) b = eqb x b || isOneOf xs b

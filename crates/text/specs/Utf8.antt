@@ -1,47 +1,88 @@
--- UTF-8, from the grammar of RFC 3629, section 4. Assumes nothing.
+-- UTF-8, from RFC 3629, section 4, "Syntax of UTF-8 Byte Sequences": its rows, name by name, and what they say of a text. Assumes nothing.
+--
+--    UTF8-octets = *( UTF8-char )
+--    UTF8-char   = UTF8-1 / UTF8-2 / UTF8-3 / UTF8-4
+--    UTF8-1      = %x00-7F
+--    UTF8-2      = %xC2-DF UTF8-tail
+--    UTF8-3      = %xE0 %xA0-BF UTF8-tail / %xE1-EC 2( UTF8-tail ) /
+--                  %xED %x80-9F UTF8-tail / %xEE-EF 2( UTF8-tail )
+--    UTF8-4      = %xF0 %x90-BF 2( UTF8-tail ) / %xF1-F3 3( UTF8-tail ) /
+--                  %xF4 %x80-8F 2( UTF8-tail )
+--    UTF8-tail   = %x80-BF
 use Prim.Native.Nat.{ℕ, _+_}
-use mathlib.Core.Bool.{_&&_}
-use mathlib.Core.List.{List}
+use mathlib.Core.Bool.{Bool, _&&_}
+use mathlib.Core.List.{List, [], _∷_, _++_}
 use lib.Dec.{leb, ltb}
 use lib.ListN.{length, getD}
 use Rattle.text.specs.Why.{missingByte}
-use Rattle.text.specs.Nom.{ok, Parser, when, alt, _>>=_}
+use Rattle.text.specs.Nom.{fail, ok, Parser, when, alt, _>>=_, done}
 use Rattle.text.specs.Many.{many0, stop}
 
+-- ---- the grammar
+-- %xLO-HI; of %xLO alone, lo and hi are the same
+pub data Octet : Type 0 where
+  _to_ : ℕ → ℕ → Octet
+
+infix 90 _to_
+-- what stands between two `/`: octets, one after the other
+abbrev pub Row : Type 0
+Row = List Octet
+
+-- UTF8-tail   = %x80-BF (the RFC's last line: what a row names stands before it here)
+abbrev pub UTF8-tail : Octet
+UTF8-tail = 0x80 to 0xBF
+
+-- UTF8-1      = %x00-7F
+abbrev pub UTF8-1 : List Row
+UTF8-1 = (0x00 to 0x7F ∷ []) ∷ []
+
+-- UTF8-2      = %xC2-DF UTF8-tail
+abbrev pub UTF8-2 : List Row
+UTF8-2 = (0xC2 to 0xDF ∷ UTF8-tail ∷ []) ∷ []
+
+-- UTF8-3      = %xE0 %xA0-BF UTF8-tail / %xE1-EC 2( UTF8-tail ) /
+--               %xED %x80-9F UTF8-tail / %xEE-EF 2( UTF8-tail )
+abbrev pub UTF8-3 : List Row
+UTF8-3 =
+    (0xE0 to 0xE0 ∷ 0xA0 to 0xBF ∷ UTF8-tail ∷ [])
+    ∷ (0xE1 to 0xEC ∷ UTF8-tail ∷ UTF8-tail ∷ [])
+    ∷ (0xED to 0xED ∷ 0x80 to 0x9F ∷ UTF8-tail ∷ [])
+    ∷ (0xEE to 0xEF ∷ UTF8-tail ∷ UTF8-tail ∷ [])
+    ∷ []
+
+-- UTF8-4      = %xF0 %x90-BF 2( UTF8-tail ) / %xF1-F3 3( UTF8-tail ) /
+--               %xF4 %x80-8F 2( UTF8-tail )
+abbrev pub UTF8-4 : List Row
+UTF8-4 =
+    (0xF0 to 0xF0 ∷ 0x90 to 0xBF ∷ UTF8-tail ∷ UTF8-tail ∷ [])
+    ∷ (0xF1 to 0xF3 ∷ UTF8-tail ∷ UTF8-tail ∷ UTF8-tail ∷ [])
+    ∷ (0xF4 to 0xF4 ∷ 0x80 to 0x8F ∷ UTF8-tail ∷ UTF8-tail ∷ [])
+    ∷ []
+
+-- UTF8-char   = UTF8-1 / UTF8-2 / UTF8-3 / UTF8-4
+abbrev pub UTF8-char : List Row
+UTF8-char = UTF8-1 ++ UTF8-2 ++ UTF8-3 ++ UTF8-4
+
+-- ---- what it says of a text
 -- a byte from lo to hi
-unfoldable pub byteIn : ℕ → ℕ → Parser (Unit {0})
-byteIn lo hi text at = when (ltb at (length text) && (leb lo (getD text at 0) && leb (getD text at 0) hi)) missingByte (ok tt (at + 1))
+abbrev pub inOctet : Octet → ℕ → Bool
+inOctet (lo to hi) b = leb lo b && leb b hi
 
--- UTF8-tail = %x80-BF
-abbrev pub utf8Tail : Parser (Unit {0})
-utf8Tail = byteIn 0x80 0xBF
+unfoldable pub octet : Octet → Parser (Unit {0})
+octet o text at = when (ltb at (length text) && inOctet o (getD text at 0)) missingByte (ok tt (at + 1))
 
--- a first byte from a to b, a second from c to d, and then none, one or two tails
-unfoldable pub row2 : ℕ → ℕ → ℕ → ℕ → Parser (Unit {0})
-row2 a b c d = byteIn a b >>= λ _. byteIn c d
+-- a row: its octets, one after the other
+unfoldable pub octets : Row → Parser (Unit {0})
+octets [] = done tt
+octets (o ∷ os) = octet o >>= λ _. octets os
 
-unfoldable pub row3 : ℕ → ℕ → ℕ → ℕ → Parser (Unit {0})
-row3 a b c d = row2 a b c d >>= λ _. utf8Tail
+-- a / b / ..: the first row that is there
+unfoldable pub oneOf : List Row → Parser (Unit {0})
+oneOf [] = λ text at. fail missingByte
+oneOf (r ∷ rs) = alt (octets r) (oneOf rs)
 
-unfoldable pub row4 : ℕ → ℕ → ℕ → ℕ → Parser (Unit {0})
-row4 a b c d = row3 a b c d >>= λ _. utf8Tail
-
--- UTF8-char = UTF8-1 / UTF8-2 / UTF8-3 / UTF8-4
 unfoldable pub utf8Char : Parser (Unit {0})
-utf8Char =
-    -- UTF8-1 = %x00-7F
-    alt (byteIn 0x00 0x7F)
-    -- UTF8-2 = %xC2-DF UTF8-tail
-    (alt (row2 0xC2 0xDF 0x80 0xBF)
-    -- UTF8-3 = %xE0 %xA0-BF UTF8-tail / %xE1-EC 2( UTF8-tail ) / %xED %x80-9F UTF8-tail / %xEE-EF 2( UTF8-tail )
-    (alt (row3 0xE0 0xE0 0xA0 0xBF)
-    (alt (row3 0xE1 0xEC 0x80 0xBF)
-    (alt (row3 0xED 0xED 0x80 0x9F)
-    (alt (row3 0xEE 0xEF 0x80 0xBF)
-    -- UTF8-4 = %xF0 %x90-BF 2( UTF8-tail ) / %xF1-F3 3( UTF8-tail ) / %xF4 %x80-8F 2( UTF8-tail )
-    (alt (row4 0xF0 0xF0 0x90 0xBF)
-    (alt (row4 0xF1 0xF3 0x80 0xBF)
-    (row4 0xF4 0xF4 0x80 0x8F))))))))
+utf8Char = oneOf UTF8-char
 
 -- UTF8-octets = *( UTF8-char ): where they end from a place on. From 0 that is the text's length, or the first byte of the first ill-formed sequence
 unfoldable pub utf8End : List ℕ → ℕ → ℕ

@@ -9,7 +9,7 @@ use Rattle.text.specs.Why.{otherText}
 use Rattle.text.specs.Nom.{Res, fail, ok, bytes, begins, tagged, run, runEnd}
 use Rattle.text.specs.Many.{many0, manyTurns}
 use Rattle.text.specs.Util.{consumeLine}
-use Rattle.text.specs.Utf8.{utf8Char, row2, row3, row4, byteIn, utf8End}
+use Rattle.text.specs.Utf8.{utf8Char, oneOf, octets, octet, utf8End}
 use Rattle.tables.specs.Refusal.{refused, given, textTooLong, notUtf8, noHeader}
 use Rattle.verdict.specs.Verdict.{masterKind, playlistKind, segmentKind, mediaKind, Says, nothing, decides, isMasterPlaylistTagLine, Verdict, master, media, firstSaid, verdictFrom}
 use Rattle.verdict.specs.Calls.{verdictOf, admitted, isMasterPlaylist}
@@ -85,10 +85,10 @@ first-line = refl
 
 -- * empty: 3 at 0
 calls : map (λ s. isMasterPlaylist (bytes s)) ("" ∷ "#EXTM3" ∷ "#EXTM3U" ∷ "#EXTM3U\n#EXT-X-STREAM-INF\n" ∷ []) ≡ refused noHeader 0 ∷ refused noHeader 0 ∷ given false ∷ given true ∷ []
-unfolding isMasterPlaylist admitted verdictOf verdictFrom firstSaid many0 manyTurns isMasterPlaylistTagLine masterKind mediaKind playlistKind segmentKind consumeLine utf8End utf8Char row2 row3 row4 byteIn runEnd run tagged begins
+unfolding isMasterPlaylist admitted verdictOf verdictFrom firstSaid many0 manyTurns isMasterPlaylistTagLine masterKind mediaKind playlistKind segmentKind consumeLine utf8End utf8Char oneOf octets octet runEnd run tagged begins
 calls = refl
 
 -- "Verdict alone: 1, 2, 3": one byte above the limit, the limit itself, a byte that ends UTF-8 in a text without a header, and UTF-8 without a header
 in-order : map admitted (replicate 65537 0xFF ∷ replicate 65536 0xFF ∷ (bytes "a" ++ (0xFF ∷ [])) ∷ bytes "a" ∷ []) ≡ refused textTooLong 0 ∷ refused notUtf8 0 ∷ refused notUtf8 1 ∷ refused noHeader 0 ∷ []
-unfolding admitted many0 manyTurns utf8End utf8Char row2 row3 row4 byteIn tagged begins
+unfolding admitted many0 manyTurns utf8End utf8Char oneOf octets octet tagged begins
 in-order = refl

@@ -1,6 +1,5 @@
 // The verdict (parser.rs, `contains_master_tag`): master playlist or media playlist, by the first tag that tells.
 // Also what every call on a text asks first: its size, its UTF-8, its first seven bytes.
-use blocks::utf8;
 use tables::Refusal;
 ghost use mathlib.Core.Path.{_≡_};
 ghost use Rattle.verdict.specs.Calls as rule;

@@ -5,7 +5,7 @@ use mathlib.Core.Bool.{Bool, true, false}
 use native.Mathlib.Omega.{arith}
 use Rattle.text.specs.Nom.{Res, fail, ok}
 use Rattle.text.proofs.Only.{Only, only-by}
-use Rattle.blocks.specs.Answers.{taken, charOf}
+use Rattle.utf8.specs.Answers.{taken, charOf}
 
 -- ---- characters
 abbrev takenBack : Res (Unit {0}) → Bool
@@ -13,6 +13,7 @@ takenBack (fail why) = false
 takenBack (ok u n) = true
 
 pub taken-only : (n : ℕ) → Only (λ b. taken b n)
+unfolding taken
 taken-only n = only-by (λ b. taken b n) takenBack go
   where
     go : (b : Bool) → takenBack (taken b n) ≡ b
