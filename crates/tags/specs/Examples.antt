@@ -1,8 +1,8 @@
 -- Worked examples, by computation: for each alternative a text that it takes and one that it refuses, and what is taken then. Assumes nothing.
-use Prim.Native.Nat.{ℕ}
+use Prim.Native.Nat.{ℕ, _^_, _-_}
 use Prim.Native.String.{String}
 use mathlib.Core.Path.{_≡_, refl}
-use mathlib.Core.List.{List, [], _∷_, map}
+use mathlib.Core.List.{List, [], _∷_, _++_, map}
 use mathlib.Core.Option.{Option, none, some}
 use Rattle.text.specs.Why.{otherText, noDigits, tooLarge, missingByte, noUri, uriNotQuoted, loneCr}
 use Rattle.text.specs.Many.{many0, manyTurns}
@@ -99,6 +99,60 @@ of-comment = (refl, refl)
 of-uri : (taken "a b \r\n" ≡ ok (uri (span 0 4)) 6) × (taken "a\rb\n" ≡ fail loneCr) × (taken "" ≡ fail missingByte)
 unfolding taken
 of-uri = (refl, refl, refl)
+
+-- ---- 02, [6]: each place that reads a number, at each of its three outcomes: none, too large, a value
+unfoldable outcomes : String → String → List (Res Tag)
+unfolding mediaPlaylistTag playlistTag mediaSegmentTag segmentTag otherTag extTag number numberOrZero parsed byteRangeVal spells extmap keyValuePairs nextPair keyValuePair quoted unquoted inserted many0 manyTurns isDigit decimal runEnd run afterTag tagged begins
+outcomes before behind = map (λ d. mediaPlaylistTag (bytes before ++ bytes d ++ bytes behind) 0) ("x" ∷ "18446744073709551616" ∷ "18446744073709551615" ∷ [])
+
+-- none: an unknown tag; too large: as 0
+outcomes-version : outcomes "#EXT-X-VERSION:" "\n" ≡ ok (unknown (ext (span 5 14) (some (span 15 16)))) 17 ∷ ok (ofHead (version 0)) 35 ∷ ok (ofHead (version (2 ^ 64 - 1))) 35 ∷ []
+unfolding outcomes
+outcomes-version = refl
+
+-- none and too large: an unknown tag
+outcomes-target : outcomes "#EXT-X-TARGETDURATION:" "\n"
+    ≡ ok (unknown (ext (span 5 21) (some (span 22 23)))) 24 ∷ ok (unknown (ext (span 5 21) (some (span 22 42)))) 43 ∷ ok (ofHead (targetDuration (2 ^ 64 - 1))) 42 ∷ []
+unfolding outcomes
+outcomes-target = refl
+
+outcomes-sequence : outcomes "#EXT-X-MEDIA-SEQUENCE:" "\n"
+    ≡ ok (unknown (ext (span 5 21) (some (span 22 23)))) 24 ∷ ok (unknown (ext (span 5 21) (some (span 22 42)))) 43 ∷ ok (ofHead (mediaSequence (2 ^ 64 - 1))) 42 ∷ []
+unfolding outcomes
+outcomes-sequence = refl
+
+-- none and too large: a discontinuity, which ends before `-SEQUENCE`
+outcomes-discontinuity : outcomes "#EXT-X-DISCONTINUITY-SEQUENCE:" "\n" ≡ ok (ofClip discontinuity) 20 ∷ ok (ofClip discontinuity) 20 ∷ ok (ofHead (discontinuitySequence (2 ^ 64 - 1))) 50 ∷ []
+unfolding outcomes
+outcomes-discontinuity = refl
+
+-- a range's length; and its offset, without which the length stands alone
+outcomes-length : outcomes "#EXT-X-BYTERANGE:" "\n"
+    ≡ ok (unknown (ext (span 5 16) (some (span 17 18)))) 19 ∷ ok (unknown (ext (span 5 16) (some (span 17 37)))) 38 ∷ ok (ofClip (ranged (range (2 ^ 64 - 1) none))) 37 ∷ []
+unfolding outcomes
+outcomes-length = refl
+
+outcomes-offset : outcomes "#EXT-X-BYTERANGE:9@" "\n"
+    ≡ ok (ofClip (ranged (range 9 none))) 18 ∷ ok (ofClip (ranged (range 9 none))) 18 ∷ ok (ofClip (ranged (range 9 (some (2 ^ 64 - 1))))) 39 ∷ []
+unfolding outcomes
+outcomes-offset = refl
+
+-- the same within a map
+outcomes-map-length : outcomes "#EXT-X-MAP:URI=\"m\",BYTERANGE=\"" "\"\n"
+    ≡ ok (unknown (ext (span 5 10) (some (span 11 32)))) 33
+    ∷ ok (unknown (ext (span 5 10) (some (span 11 51)))) 52
+    ∷ ok (ofClip (mapped (extMap (span 16 17) (some (range (2 ^ 64 - 1) none)) (span 11 51)))) 51
+    ∷ []
+unfolding outcomes
+outcomes-map-length = refl
+
+outcomes-map-offset : outcomes "#EXT-X-MAP:URI=\"m\",BYTERANGE=\"9@" "\"\n"
+    ≡ ok (ofClip (mapped (extMap (span 16 17) (some (range 9 none)) (span 11 34)))) 34
+    ∷ ok (ofClip (mapped (extMap (span 16 17) (some (range 9 none)) (span 11 53)))) 53
+    ∷ ok (ofClip (mapped (extMap (span 16 17) (some (range 9 (some (2 ^ 64 - 1)))) (span 11 53)))) 53
+    ∷ []
+unfolding outcomes
+outcomes-map-offset = refl
 
 -- ---- which alternative took it
 abbrev numberIn : Res Tag → Option ℕ

@@ -9,7 +9,7 @@ use Rattle.text.specs.Why.{otherText, noDigits, tooLarge, missingByte, t
 use Rattle.text.specs.Nom.{fail, ok, span, bytes, isDigit, begins, tagged, afterTag, run, runEnd, decimal}
 use Rattle.text.specs.Many.{many0, manyTurns}
 use Rattle.text.specs.Utf8.{utf8End, utf8Char, oneOf, octets, octet}
-use Rattle.text.specs.Util.{consumeLine, parsed, number, numberOrZero, byteRangeVal, range, spells}
+use Rattle.text.specs.Util.{consumeLine, fits, large, parsed, number, numberOrZero, byteRangeVal, range, spells}
 use Rattle.text.specs.BasicTags.{m3uTag, extTag, ext, commentTag, playlistType, event, vod, other}
 
 -- ---- UTF-8
@@ -110,6 +110,12 @@ unfolding utf8End many0 manyTurns utf8Char oneOf octets octet
 cut-short = refl
 
 -- ---- numbers
+-- 02, [6]: "none, too large with the place after its digits, value with that place"; a number is limited by its value and not by its digits
+outcomes : map (λ t. parsed (bytes t) 0) ("" ∷ "x1" ∷ "18446744073709551616x" ∷ "99999999999999999999999999999999" ∷ "18446744073709551615x" ∷ "0000000000000000000000007" ∷ [])
+    ≡ fail noDigits ∷ fail noDigits ∷ ok large 20 ∷ ok large 32 ∷ ok (fits (2 ^ 64 - 1)) 20 ∷ ok (fits 7) 25 ∷ []
+unfolding parsed isDigit runEnd run decimal
+outcomes = refl
+
 target : number (bytes "#EXT-X-TARGETDURATION:10.5\n") 22 ≡ ok 10 24
 unfolding number parsed isDigit runEnd run decimal
 target = refl

@@ -23,7 +23,8 @@ pub data Parsed : Type 0 where
 abbrev pub parse : ℕ → Parsed
 parse n = cond (ltb n (2 ^ 64)) (fits n) large
 
--- take_while1(is_digit), then str::parse::<u64>
+-- take_while1(is_digit), then str::parse::<u64>. 02, [6]: "Let the one reading of a number answer with three outcomes: none, too large with the place after its
+-- digits, value with that place": `fail noDigits`, `ok large place`, `ok (fits value) place`
 unfoldable pub parsed : Parser Parsed
 parsed = map parse digit1
 
