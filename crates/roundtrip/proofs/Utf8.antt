@@ -10,7 +10,7 @@ use lib.Dec.{leb, ltb}
 use lib.ListN.{length, drop, take, getD, length-append, length-drop, take-append-drop}
 use lib.Seq.{getD-drop, length-take-le}
 use borrow.Author.Tests.{ltb-true, ltb-false, leb-true}
-use Rattle.text.specs.Why.{Why, missingByte}
+use Rattle.text.specs.Why.{missingByte}
 use Rattle.text.specs.Nom.{Res, fail, ok}
 use Rattle.text.specs.Many.{Many, many, many0, stop}
 use Rattle.text.specs.Utf8.{Octet, _to_, Row, UTF8-char, octet, octets, oneOf, utf8Char, utf8End}

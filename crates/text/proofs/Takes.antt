@@ -6,7 +6,7 @@ use mathlib.Core.Bool.{Bool, true, false, cond, not, _&&_, _||_, false≢true, o
 use mathlib.Core.List.{List}
 use mathlib.Core.Option.{Option}
 use native.Mathlib.Omega.{arith}
-use lib.Dec.{ltb, leb, eqb}
+use lib.Dec.{ltb, eqb}
 use lib.ListN.{length, getD}
 use borrow.Author.Tests.{ltb-true, ltb-false, eqb-true, eq-eqb}
 use Rattle.text.specs.Why.{Why, otherText, noDigits, missingByte, typeEmpty, nameEmpty, tooLarge, loneCr}
@@ -14,7 +14,7 @@ use Rattle.text.specs.Nom.{Res, fail, ok, Parser, Span, span, bytes, isD
 use Rattle.text.specs.Many.{many0, manyTurns, goOn, stop, collected, Many, many}
 use Rattle.text.specs.Util.{consumeLine, Parsed, fits, large, parse, parsed, orFail, orZero, number, numberOrZero, range, byteRangeVal}
 use Rattle.text.specs.BasicTags.{m3uTag, ext, extTag, commentTag, playlistType, fromStr}
-use Rattle.text.proofs.Laws.{run-from, run-within, run-step, run-stop, tagged-within, tagged-byte, and-left}
+use Rattle.text.proofs.Laws.{run-from, run-within, run-step, run-stop, tagged-within, tagged-byte}
 use Rattle.text.proofs.Many.{Falls, stop-push}
 
 -- from `at` to n: at least k bytes and, if any, within the text

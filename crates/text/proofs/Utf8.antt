@@ -11,8 +11,8 @@ use lib.ListN.{length, getD, length-append, List·getD-append}
 use lib.Seq.{getD-append-add}
 use borrow.Author.Tests.{ltb-true, ltb-false, lt-ltb, le-ltb, leb-true, le-leb, lt-leb}
 use Rattle.text.specs.Why.{Why, missingByte}
-use Rattle.text.specs.Nom.{Res, fail, ok, isAscii, runEnd, when, orElse, bind}
-use Rattle.text.specs.Many.{many0, stop}
+use Rattle.text.specs.Nom.{Res, fail, ok, isAscii, runEnd, when, orElse}
+use Rattle.text.specs.Many.{stop}
 use Rattle.text.specs.Utf8.{Octet, _to_, Row, UTF8-1, UTF8-2, UTF8-3, UTF8-4, UTF8-char, inOctet, octet, octets, oneOf, utf8Char, utf8End}
 use Rattle.text.proofs.Laws.{and-left, and-right, run-out, run-stop, run-step}
 use Rattle.text.proofs.Takes.{Takes, fail-not-ok, when-ok, when-went, bind-ok, takes-done, takes-bind, takes-less, takes-alt, takes-falls}

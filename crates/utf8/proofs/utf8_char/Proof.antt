@@ -1,7 +1,5 @@
 -- UTF8-1 / UTF8-2 / UTF8-3 / UTF8-4: each that is not there leaves the answer to those behind it. Assumes nothing.
-use Prim.Native.Nat.{ℕ}
 use mathlib.Core.Path.{_≡_, refl, sym, _∙_}
-use mathlib.Core.List.{List}
 use borrow.Author.Needs.{needs}
 use Rattle.text.specs.Why.{missingByte}
 use Rattle.text.specs.Nom.{Parser, alt}
