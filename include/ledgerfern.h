@@ -5,10 +5,10 @@
  *
  * Every call answers for any bytes, any words and any numbers; each is proved to end, and to touch only the memory that
  * it is lent. Nothing is kept after a call and nothing is allocated: text and tables are the caller's, before and after.
- * A pointer must be valid for its length (counted in bytes for a text, in words for a table) and, even where the length
- * is 0, not NULL; a table has the alignment of uint64_t, and needs no more. What a call writes to may not overlap
- * anything else that it is given. Calls may run at once in several threads, as long as no two share a table that is
- * written.
+ * A pointer must be valid for its length (counted in bytes for a text, a file and an output, in words for a table) and,
+ * even where the length is 0, not NULL; a table has the alignment of uint64_t, and needs no more. What a call writes to
+ * may not overlap anything else that it is given. Calls may run at once in several threads, as long as no two share a
+ * table or an output that is written.
  *
  * An answer is a struct by value. `number` is 0 where the call is answered, and else the refusal's number, `place` the
  * place in the text that it names; all other fields are then 0, and no lent memory has changed.
@@ -44,7 +44,13 @@ enum ledgerfern_refusal {
     LEDGERFERN_WINDOW_TOO_FAR = 15,  /* a window's end above 2^64 - 1; place 0 */
     LEDGERFERN_NO_RANGE_BEFORE = 16, /* a range without an offset, and none of the same URI just before it; place 0 */
     LEDGERFERN_NOTHING_PLAYS = 17,   /* there are no clips, or all lengths together are 0; place 0 */
-    LEDGERFERN_TICK_TOO_LATE = 18    /* a tick at or past the start tick of turn 1,000,000; place 0 */
+    LEDGERFERN_TICK_TOO_LATE = 18,   /* a tick at or past the start tick of turn 1,000,000; place 0 */
+    LEDGERFERN_FILE_TOO_SHORT = 19,  /* a cue file shorter than its trailer of 12 bytes; place 0 */
+    LEDGERFERN_OTHER_VERSION = 20,   /* a cue file of a version that is not 1; place 0 */
+    LEDGERFERN_NOT_EXACT = 21,       /* a place, count or length in a cue file that does not fit exactly; place 0 */
+    LEDGERFERN_BAD_START = 22,       /* a start in a cue file that is not 0 in the first clip, falls, or is too late, or
+                                        ns that make a second; place 0 */
+    LEDGERFERN_TOO_WIDE = 33         /* more clips, or a longer URI, than the fields of a cue file hold; place 0 */
 };
 
 /* ---- limits ------------------------------------------------------------------------------------------------------- */
@@ -59,6 +65,14 @@ enum ledgerfern_refusal {
 /* Tables of so many records hold what any text within the limit has: `never-short`, crates/media/proofs/Most.antt. */
 #define LEDGERFERN_MOST_CLIPS 32765
 #define LEDGERFERN_MOST_TAGS 9361
+
+/*
+ * How many bytes a cue file has: ten a clip, the bytes of all URIs together, and twelve. So many as MOST_ says hold the
+ * file of any list that was read, since a text within the limit has no more clips, and its URIs do not overlap. A table
+ * made by hand may show the same bytes in many URIs, and then its file may be longer.
+ */
+#define LEDGERFERN_CUE_FILE_BYTES(clips, uri_bytes) ((clips)*10 + (uri_bytes) + 12)
+#define LEDGERFERN_MOST_CUE_FILE_BYTES LEDGERFERN_CUE_FILE_BYTES(LEDGERFERN_MOST_CLIPS, LEDGERFERN_TEXT_LIMIT)
 
 /* ---- the tables --------------------------------------------------------------------------------------------------- */
 
@@ -198,6 +212,15 @@ typedef struct {
     uint64_t clips; /* records in the table of windows */
 } ledgerfern_windows_answer;
 
+typedef struct {
+    uint64_t number;
+    uint64_t place;
+    uint64_t start;     /* of the clip, in ns, exact */
+    uint64_t uri_start; /* its URI: the place of the first byte in the file */
+    uint64_t uri_end;   /* and the place after the last */
+    uint64_t clips;     /* in the file */
+} ledgerfern_cue_answer;
+
 /* ---- calls -------------------------------------------------------------------------------------------------------- */
 
 /* Whether a text is a master playlist. Refusals: 1, 2, 3. */
@@ -297,6 +320,34 @@ ledgerfern_window_answer ledgerfern_window(const uint8_t *text, size_t text_leng
 ledgerfern_windows_answer ledgerfern_windows(const uint8_t *text, size_t text_length, size_t clip_count,
                                              const uint64_t *clips, size_t clip_words, uint64_t *windows,
                                              size_t window_words);
+
+/* ---- the cue file, which the motor board reads: docs/CUE-FILE.md has every byte of it ------------------------------ */
+
+/*
+ * Writes the cue file of a table of clips into the output, whose bytes past the file stay as they were: of each clip its
+ * start in ns, as ledgerfern_start_ns gives it, and its URI. Nothing else of a clip is kept; so the last one's length is
+ * not. It reads the words of URI and length, and no others. The output needs LEDGERFERN_CUE_FILE_BYTES (10).
+ *
+ * Of the text only the length is judged (1): it need be neither UTF-8 nor a playlist. The table must keep the rule (9):
+ * the count fits; lengths are below the limit; URIs have start <= end <= text_length, and may overlap. What
+ * ledgerfern_read gives keeps it, with the text that was read. All lengths together, the last one's too, are at most the
+ * total's limit (11). A count or a URI's length above 65,535 is 33, which no list that was read has. Refusals: 1, 9, 11,
+ * 33, 10.
+ */
+ledgerfern_written_answer ledgerfern_cue_write(const uint8_t *text, size_t text_length, size_t clip_count,
+                                               const uint64_t *clips, size_t clip_words, uint8_t *output,
+                                               size_t output_length);
+
+/*
+ * A clip of a cue file: its start, and where its URI stands in the file. The whole file is judged first, whichever clip is
+ * asked for: of each list of starts and URIs there is one file, and any other bytes are refused. A file may have any size,
+ * and a URI any bytes. A file without clips is a cue file too, and answers 14 to every clip. Refusals: 19, 20, 21, 22, 14.
+ *
+ * Each call walks the whole file, and keeps nothing. Who wants every clip of a long file asks for one of them, and then
+ * takes the records and URIs from front to end as docs/CUE-FILE.md has them: a file that is answered, or is refused by 14,
+ * is whole.
+ */
+ledgerfern_cue_answer ledgerfern_cue_read(const uint8_t *file, size_t file_length, size_t clip);
 
 #ifdef __cplusplus
 }

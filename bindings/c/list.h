@@ -50,8 +50,8 @@ static void usage(void)
 }
 
 /*
- * A whole word of digits: what strtoull takes besides (blanks, signs, a rest) is no number here. It is inline so that a
- * program without numbers builds without a warning.
+ * A whole word of digits: what strtoull takes besides (blanks, signs, a rest) is no number here. It is inline, as
+ * print_uri is, so that a program without numbers builds without a warning.
  */
 static inline uint64_t number(const char *name, const char *word)
 {
@@ -79,7 +79,7 @@ static size_t read_list(void)
 }
 
 /* Prints a clip's URI, which may hold a zero byte. */
-static void print_uri(size_t clip)
+static inline void print_uri(size_t clip)
 {
     const uint64_t *record = clips + clip * LEDGERFERN_CLIP_WORDS;
     uint64_t start = record[LEDGERFERN_URI_START], end = record[LEDGERFERN_URI_END];

@@ -16,15 +16,15 @@ from program import ROOT
 
 SHOWN = 10
 # what an argument of a record is, by its name; any other is a number
-TEXTS, TABLES = ("text",), ("words", "out")
+TEXTS, TABLES = ("text", "file", "output"), ("words", "out")
 
 
 class Script:
-    """A script by its name, which NAME.rs and target/NAME have too; for each op a title and the names of its arguments; and
-    how a record is told in words."""
+    """A script by its name, which NAME.rs and target/NAME have too; for each op a title and the names of its arguments; how
+    a record is told in words; and how many calls there are where nobody says."""
 
-    def __init__(self, name, titles, arguments, told):
-        self.name, self.titles, self.arguments, self.told = name, titles, arguments, told
+    def __init__(self, name, titles, arguments, told, count=200_000):
+        self.name, self.titles, self.arguments, self.told, self.count = name, titles, arguments, told, count
         self.out = os.path.join(ROOT, "target", name)
         self.records, self.lines, self.printed = (os.path.join(self.out, file) for file in ("records", "lines", "printed"))
 
@@ -107,7 +107,7 @@ class Script:
             print(f"    must be: {line.rstrip()}\n    printed: {got.rstrip()}")
         else:
             fields = enumerate(itertools.zip_longest(line.split(), got.split()))
-            print("    field %d must be %s, printed is %s" % next((k, *pair) for k, pair in fields if pair[0] != pair[1]))
+            print("    field %d%s must be %s, printed is %s" % next((k, *differing(*pair)) for k, pair in fields if pair[0] != pair[1]))
         again = " ".join([str(op), *(as_argument(value) for value in values.values())])
         if len(again) <= 4_000:
             print(f"    for tools/records: {again}")
@@ -122,7 +122,7 @@ class Script:
         if words[:1] in (["-h"], ["--help"]):
             print(help_text.strip())
             return 0
-        chosen = seed_and_count(words)
+        chosen = seed_and_count(words, self.count)
         if chosen is None:
             print(f"{self.name}: SEED is a number, and COUNT one above 0, of at most nine digits; see tools/{self.name} --help", file=sys.stderr)
             return 2
@@ -134,6 +134,14 @@ class Script:
         except subprocess.CalledProcessError as fault:
             print(f"{self.name}: {' '.join(fault.cmd)} failed", file=sys.stderr)
             return 1
+
+
+def differing(must, printed):
+    """Of two fields, which may be an output's bytes in hex: from where they differ, and what they have there."""
+    if must is None or printed is None or max(len(must), len(printed)) <= 40:
+        return "", must, printed
+    place = len(os.path.commonprefix([must, printed])) // 2 * 2
+    return f" from its character {place} on", *(f"{field[place:place + 40]}{'..' * (len(field) > place + 40)}" for field in (must, printed))
 
 
 def numbers(file, many):
@@ -150,10 +158,10 @@ def as_argument(value):
     return str(value)
 
 
-def seed_and_count(words):
+def seed_and_count(words, count):
     """Nothing, where the words are no such numbers."""
     if len(words) > 2 or not all(word.isascii() and word.isdigit() and len(word) < 10 for word in words):
         return None
     chosen = [int(word) for word in words]
-    chosen += [1, 200_000][len(chosen):]
+    chosen += [1, count][len(chosen):]
     return chosen if chosen[1] else None

@@ -1,4 +1,4 @@
-//! What `ticks.rs` and `reels.rs` share: dice, and the two files of a run. Neither knows a rule.
+//! What `ticks.rs`, `reels.rs` and `cues.rs` share: dice, and the two files of a run. Neither knows a rule.
 #![allow(dead_code)] // each of them uses a part
 use std::fmt::Write as _;
 use std::fs::File;
@@ -68,16 +68,28 @@ impl Run {
 
     /// A line is op, number, place, which is 0 for each refusal of these calls, and the values.
     pub fn line(&mut self, op: u8, number: u64, values: &[u64], out: Option<&[u64]>) {
-        let mut line = format!("{op} {number} 0");
-        for value in values {
-            write!(line, " {value}").unwrap();
-        }
+        let mut line = begun(op, number, values);
         if let Some(words) = out {
             line.push_str(" |");
             for word in words {
                 write!(line, " {word}").unwrap();
             }
         }
+        self.put(&line);
+    }
+
+    /// The same for a call with an output: its bytes in hex, `-` if it has none.
+    pub fn line_of_bytes(&mut self, op: u8, number: u64, values: &[u64], output: &[u8]) {
+        let mut line = begun(op, number, values);
+        line.push_str(if output.is_empty() { " | -" } else { " | " });
+        for byte in output {
+            line.push(char::from(HEX[usize::from(byte >> 4)]));
+            line.push(char::from(HEX[usize::from(byte & 15)]));
+        }
+        self.put(&line);
+    }
+
+    fn put(&mut self, line: &str) {
         writeln!(self.lines, "{line}").expect("the lines can be written");
         self.calls += 1;
     }
@@ -87,6 +99,16 @@ impl Run {
         self.records.flush().expect("the records can be written");
         self.lines.flush().expect("the lines can be written");
     }
+}
+
+const HEX: &[u8; 16] = b"0123456789abcdef";
+
+fn begun(op: u8, number: u64, values: &[u64]) -> String {
+    let mut line = format!("{op} {number} 0");
+    for value in values {
+        write!(line, " {value}").unwrap();
+    }
+    line
 }
 
 // ---------------------------------------------------------------------------------------------------------------

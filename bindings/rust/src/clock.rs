@@ -1,7 +1,7 @@
 //! The exact clock and the byte window, over a table of clips.
 use crate::refusal::{check, Refusal};
 use crate::tables::Packed;
-use crate::{ffi, layout};
+use crate::{cue, ffi, layout};
 use std::iter::FusedIterator;
 use std::ops::Range;
 
@@ -96,6 +96,20 @@ impl Clips {
         let answer = ffi::windows(&self.text, self.len(), &self.words, &mut words);
         check(answer.number, answer.place)?;
         Ok(Windows { words, left: 0..answer.clips as usize })
+    }
+
+    /// The cue file that a motor board reads (`docs/CUE-FILE.md`): each clip's start in ns and its URI. [`crate::cues`] and
+    /// [`crate::read_cue`] read it. Of the last clip the length is not in it.
+    ///
+    /// Refusals: 1 where the list's strings are above 65,535 bytes together; 9; 11; 33 where there are over 65,535 clips.
+    pub fn cue_file(&self) -> Result<Vec<u8>, Refusal> {
+        cue::written(&self.text, self.len(), &self.words)
+    }
+
+    /// Writes the cue file into lent bytes, and gives how many it has. Bytes behind it stay as they were; a refused call
+    /// changes none. Refusals: those of [`Clips::cue_file`], and then 10 where the file is longer than `out`.
+    pub fn write_cue_file(&self, out: &mut [u8]) -> Result<usize, Refusal> {
+        cue::write(&self.text, self.len(), &self.words, out)
     }
 }
 

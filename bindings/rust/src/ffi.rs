@@ -92,6 +92,17 @@ pub struct Windows {
 
 #[repr(C)]
 #[derive(Clone, Copy)]
+pub struct Cue {
+    pub number: u64,
+    pub place: u64,
+    pub start: u64,
+    pub uri_start: u64,
+    pub uri_end: u64,
+    pub clips: u64,
+}
+
+#[repr(C)]
+#[derive(Clone, Copy)]
 pub struct Written {
     pub number: u64,
     pub place: u64,
@@ -99,7 +110,7 @@ pub struct Written {
 }
 
 mod calls {
-    use super::{Head, Written};
+    use super::{Cue, Head, Written};
     use super::{On, Playing, Read, Starts, Value, Verdict, Window, Windows};
 
     extern "C" {
@@ -177,6 +188,16 @@ mod calls {
             out: *mut u8,
             out_length: usize,
         ) -> Written;
+        pub fn ledgerfern_cue_write(
+            text: *const u8,
+            text_length: usize,
+            clip_count: usize,
+            clips: *const u64,
+            clip_words: usize,
+            out: *mut u8,
+            out_length: usize,
+        ) -> Written;
+        pub fn ledgerfern_cue_read(file: *const u8, file_length: usize, clip: usize) -> Cue;
     }
 }
 
@@ -269,4 +290,22 @@ pub fn write(
             out.len(),
         )
     }
+}
+
+pub fn cue_write(text: &[u8], clip_count: usize, clips: &[u64], out: &mut [u8]) -> Written {
+    unsafe {
+        calls::ledgerfern_cue_write(
+            text.as_ptr(),
+            text.len(),
+            clip_count,
+            clips.as_ptr(),
+            clips.len(),
+            out.as_mut_ptr(),
+            out.len(),
+        )
+    }
+}
+
+pub fn cue_read(file: &[u8], clip: usize) -> Cue {
+    unsafe { calls::ledgerfern_cue_read(file.as_ptr(), file.len(), clip) }
 }

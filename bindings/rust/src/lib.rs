@@ -2,7 +2,7 @@
 //!
 //! The work is done by `libledgerfern.a`, whose calls are proved to answer every input, to end, and to touch only what
 //! they are lent. This crate lends them tables, and makes the values that a user of m3u8-rs knows of what comes back. It
-//! has no dependency, does not panic on any input, and its unsafe code is the twelve calls in `ffi`.
+//! has no dependency, does not panic on any input, and its unsafe code is the fourteen calls in `ffi`.
 //!
 //! ```no_run
 //! let text = std::fs::read("list.m3u8").unwrap_or_default();
@@ -15,6 +15,7 @@
 //!         println!("clip 1 of turn 2: {:?}", clips.start_tick(100, 2, 1));
 //!         println!("on at tick 900: {:?}", clips.clip_at(100, 900));
 //!         println!("bytes of clip 1: {:?}", clips.window(1));
+//!         println!("cue file: {:?}", clips.cue_file());
 //!     }
 //!     Err(refusal) => println!("{}", refusal),
 //! }
@@ -44,6 +45,7 @@
 )]
 
 mod clock;
+mod cue;
 #[allow(unsafe_code)]
 mod ffi;
 mod layout;
@@ -53,6 +55,7 @@ mod refusal;
 mod tables;
 
 pub use clock::{Clips, On, Playing, Start, Starts, Windows};
+pub use cue::{cues, read_cue, Cue, Cues};
 pub use parser::{is_master_playlist, is_master_playlist_res, parse_media_playlist, parse_media_playlist_res};
 pub use playlist::{ByteRange, ExtTag, Map, MediaPlaylist, MediaPlaylistType, MediaSegment};
 pub use refusal::Refusal;

@@ -94,6 +94,11 @@ impl MediaPlaylist {
     pub fn windows(&self) -> Result<Windows, Refusal> {
         self.clips().windows()
     }
+
+    /// The cue file that a motor board reads ([`Clips::cue_file`]).
+    pub fn cue_file(&self) -> Result<Vec<u8>, Refusal> {
+        self.clips().cue_file()
+    }
 }
 
 /// `#EXT-X-PLAYLIST-TYPE:<EVENT|VOD>`

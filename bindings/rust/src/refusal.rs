@@ -5,7 +5,7 @@ use std::fmt;
 /// Why a call gives nothing: the number of the reason, and the place in the text that it names, or 0.
 #[derive(Clone, Copy, Debug, PartialEq, Eq, Hash)]
 pub struct Refusal {
-    /// 1 to 18, as `include/ledgerfern.h` has them.
+    /// 1 to 22, or 33, as `include/ledgerfern.h` has them.
     pub number: u64,
     /// A place in the text, in bytes; 0 where the reason has none.
     pub place: usize,
@@ -33,6 +33,11 @@ impl Refusal {
             16 => "the range has no offset, and no range of the same URI comes just before it",
             17 => "nothing plays: there are no clips, or the total is 0",
             18 => "the tick is at or past the start tick of turn 1,000,000",
+            19 => "the cue file is shorter than its trailer",
+            20 => "the cue file's version is not 1",
+            21 => "a place, count or length in the cue file does not fit exactly",
+            22 => "a start in the cue file is not 0 in the first clip, falls, is too late, or has ns of 10^9 or more",
+            33 => "there are more clips, or a longer URI, than the fields of a cue file hold",
             _ => "unknown",
         }
     }

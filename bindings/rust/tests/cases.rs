@@ -1,5 +1,6 @@
-//! The binding's tests: values by hand from document 01's examples, and the clock and the window beside sums made here. A
-//! program of its own (`harness = false`), so that it also runs where the usual start of a Rust program can't.
+//! The binding's tests: values by hand from the examples of documents 01 and 02, and the clock, the window and the cue file
+//! beside what is worked out here. A program of its own (`harness = false`), so that it also runs where the usual start of a
+//! Rust program can't.
 use ledgerfern::*;
 use std::ops::{Range, RangeInclusive};
 
@@ -578,6 +579,277 @@ fn windows_from_both_ends() {
     assert!(format!("{:?}", windows).starts_with("Windows"));
 }
 
+/// A list by the lengths in ns and the URIs of its clips.
+fn cued<'a>(clips: impl IntoIterator<Item = (u64, &'a str)>) -> MediaPlaylist {
+    let mut list = MediaPlaylist::default();
+    for (ns, uri) in clips {
+        let mut segment = MediaSegment { uri: uri.into(), ..Default::default() };
+        segment.set_duration_ns(ns);
+        list.segments.push(segment);
+    }
+    list
+}
+
+/// 01's sheet as a cue file: three records, the URIs from byte 30 on, the trailer. 9,000,000 is 0x895440, 13,000,000 0xC65D40.
+const CUE_FILE: &[u8] = b"\0\0\0\0\0\0\0\0\0\x04\
+    \0\0\0\x09\0\x89\x54\x40\0\x04\
+    \0\0\0\x09\0\xC6\x5D\x40\0\x04\
+    a.tsb.tsc.ts\
+    \0\0\0\0\0\0\0\x1E\0\x03\0\x01";
+
+/// A file's clips, by the call for one and by the pass over all, from both ends, which give the same.
+fn cues_of(file: &[u8]) -> Result<Vec<Cue<'_>>, Refusal> {
+    let all: Vec<Cue> = match cues(file) {
+        Ok(all) => all.collect(),
+        Err(refusal) => {
+            assert_eq!((read_cue(file, 0), read_cue(file, usize::MAX)), (Err(refusal), Err(refusal)));
+            return Err(refusal);
+        }
+    };
+    let mut back: Vec<Cue> = cues(file)?.rev().collect();
+    back.reverse();
+    assert_eq!(all, back);
+    // Each call judges the whole file: of a long one the clips at its ends and some between are asked for.
+    for clip in (0..all.len()).filter(|clip| all.len() < 100 || clip % 9_001 == 0 || clip + 2 > all.len()) {
+        assert_eq!(read_cue(file, clip).as_ref(), Ok(&all[clip]));
+    }
+    assert_eq!((read_cue(file, all.len()), read_cue(file, usize::MAX)), (refusal(14), refusal(14)));
+    Ok(all)
+}
+
+fn the_cue_file() {
+    let list = parse_media_playlist_res(SHEET).expect("the sheet is read");
+    let clips = list.clips();
+    assert_eq!((clips.cue_file().as_deref(), list.cue_file().as_deref()), (Ok(CUE_FILE), Ok(CUE_FILE)));
+    let cue = |start_ns, uri: &'static str, start| Cue { start_ns, uri: uri.as_bytes(), place: start..start + 4 };
+    let hand = [cue(0, "a.ts", 30), cue(9_009_000_000, "b.ts", 34), cue(9_013_000_000, "c.ts", 38)];
+    assert_eq!(cues_of(CUE_FILE).as_deref(), Ok(&hand[..]));
+    // Bytes behind the file stay as they were; where it has no room all do.
+    for room in 0..60 {
+        let mut out = vec![7; room];
+        let written = clips.write_cue_file(&mut out);
+        if room < 54 {
+            assert_eq!((written, out), (refusal(10), vec![7; room]));
+        } else {
+            assert_eq!((written, &out[..54], &out[54..]), (Ok(54), CUE_FILE, &[7; 6][..room - 54]));
+        }
+    }
+}
+
+/// A list's file once more, from 02's sentence.
+fn file_by_hand(list: &MediaPlaylist) -> Vec<u8> {
+    let (mut file, mut uris) = (Vec::new(), Vec::<u8>::new());
+    let mut start = 0;
+    for segment in &list.segments {
+        file.extend(((start / 1_000_000_000) as u32).to_be_bytes());
+        file.extend(((start % 1_000_000_000) as u32).to_be_bytes());
+        file.extend((segment.uri.len() as u16).to_be_bytes());
+        uris.extend(segment.uri.as_bytes());
+        start += segment.duration_ns;
+    }
+    let place = file.len() as u32;
+    file.extend(uris);
+    file.extend(0u32.to_be_bytes());
+    file.extend(place.to_be_bytes());
+    file.extend((list.segments.len() as u16).to_be_bytes());
+    file.extend(1u16.to_be_bytes());
+    file
+}
+
+/// Written, read and written again: the file is 02's, its clips are the list's starts and URIs, and a list with these has
+/// the same file.
+fn there_and_back(list: &MediaPlaylist) -> Vec<u8> {
+    let file = list.cue_file().expect("it is written");
+    assert!(file == file_by_hand(list));
+    let found = cues_of(&file).expect("it is read");
+    let starts = list.starts(1, 0).expect("the turn has starts");
+    let hand = starts.zip(&list.segments).map(|(start, segment)| (start.ns, segment.uri.as_bytes()));
+    assert!(found.iter().map(|cue| (cue.start_ns, cue.uri)).eq(hand));
+    let ends = found.iter().skip(1).map(|cue| cue.start_ns).chain(found.last().map(|cue| cue.start_ns));
+    let lengths = ends.zip(&found).map(|(end, cue)| end - cue.start_ns);
+    let uris = found.iter().map(|cue| std::str::from_utf8(cue.uri).expect("a URI of a list is UTF-8"));
+    assert!(cued(lengths.zip(uris)).cue_file().as_ref() == Ok(&file));
+    file
+}
+
+fn cue_files_undone() {
+    assert_eq!(there_and_back(&MediaPlaylist::default()), b"\0\0\0\0\0\0\0\0\0\0\0\x01");
+    there_and_back(&cued([(0, ""), (0, ""), (0, "")]));
+    there_and_back(&cued([(999_999_999, "a"), (1, "\0"), (999_999_000_000_000, "\u{e9}"), (0, "")]));
+    // The last length is in no file.
+    assert_eq!(there_and_back(&cued([(5, "a")])), there_and_back(&cued([(1_000_000_000_000_000, "a")])));
+    // A start of exactly 1,000,000 s.
+    there_and_back(&cued([(1_000_000_000_000_000, "a"), (0, "b")]));
+    let mut chance = Chance(5);
+    for digits in 0..=12 {
+        for _ in 0..20 {
+            let lengths = chance.lengths(40, 10u64.pow(digits));
+            let uris = ["a.ts", "", "b", "\u{6620}\u{50cf}.ts"];
+            there_and_back(&cued(lengths.iter().map(|ns| (*ns, uris[chance.upto(3) as usize]))));
+        }
+    }
+    // As many clips as a text holds, and the longest URI that a list holds.
+    let mut text = b"#EXTM3U".to_vec();
+    while text.len() + 2 <= 65_536 {
+        text.extend_from_slice(b"a\n");
+    }
+    text.push(b'a');
+    let file = there_and_back(&parse_media_playlist_res(&text).expect("it is read"));
+    assert_eq!(file.len(), 32_765 * 11 + 12);
+    assert_eq!(there_and_back(&cued([(1, &*"u".repeat(65_535))])).len(), 10 + 65_535 + 12);
+}
+
+/// 1, 9, 11, 33, 10: each before those behind it, and no byte is touched.
+fn cue_writing_refused() {
+    let refused = |list: &MediaPlaylist| {
+        let mut out = [7; 100];
+        let (whole, lent) = (list.cue_file(), list.clips().write_cue_file(&mut out));
+        assert_eq!(out, [7; 100]);
+        assert_eq!(whole.as_ref().err(), lent.as_ref().err());
+        whole.expect_err("the list is refused").number
+    };
+    // All four at once, then one less each time. Of strings a list may have 65,535 bytes.
+    let mut list = cued([(0, "")].repeat(65_536));
+    list.segments[0].uri = "u".repeat(65_536);
+    list.segments[1].set_duration_ns(1_000_000_000_000_000_000);
+    list.segments[2].set_duration_ns(1_000_000_000_000_000);
+    list.segments[65_535].set_duration_ns(1);
+    assert_eq!(refused(&list), 1);
+    list.segments[0].uri = "u".repeat(65_535);
+    assert_eq!(refused(&list), 9);
+    list.segments[1].set_duration_ns(999_999_999_999_999_999);
+    assert_eq!(refused(&list), 11);
+    list.segments[1].set_duration_ns(0);
+    assert_eq!(refused(&list), 11);
+    list.segments[65_535].set_duration_ns(0);
+    assert_eq!(refused(&list), 33);
+    list.segments.pop();
+    assert_eq!(there_and_back(&list).len(), 65_535 * 10 + 65_535 + 12);
+    assert_eq!(list.clips().write_cue_file(&mut vec![0; 720_896]), refusal(10));
+    assert_eq!(list.clips().write_cue_file(&mut vec![0; 720_897]), Ok(720_897));
+    // Lengths that pass 2^64 together, and that are 2^64, which 64 bits would show as 0.
+    list.segments.iter_mut().for_each(|segment| segment.set_duration_ns(999_999_999_999_999_999));
+    assert_eq!(refused(&list), 11);
+    list.segments.truncate(19);
+    list.segments[18].set_duration_ns(446_744_073_709_551_634);
+    assert_eq!(refused(&list), 11);
+}
+
+/// What the reader says of one clip, once more, in the order of 02's sentences.
+fn cue_by_hand(file: &[u8], clip: usize) -> Result<(u64, Range<usize>), Refusal> {
+    let number =
+        |at: usize, width| file[at..at + width].iter().fold(0u64, |value, byte| value * 256 + u64::from(*byte));
+    if file.len() < 12 {
+        return refusal(19);
+    }
+    let trailer = file.len() - 12;
+    if number(trailer + 10, 2) != 1 {
+        return refusal(20);
+    }
+    let count = number(trailer + 8, 2) as usize;
+    if number(trailer, 4) != 0 || number(trailer + 4, 4) != 10 * count as u64 || trailer < 10 * count {
+        return refusal(21);
+    }
+    let lengths: Vec<usize> = (0..count).map(|k| number(10 * k + 8, 2) as usize).collect();
+    if 10 * count + lengths.iter().sum::<usize>() != trailer {
+        return refusal(21);
+    }
+    let starts: Vec<u64> = (0..count).map(|k| number(10 * k, 4) * 1_000_000_000 + number(10 * k + 4, 4)).collect();
+    let falls = starts.windows(2).any(|pair| pair[1] < pair[0]);
+    let carries = (0..count).any(|k| number(10 * k + 4, 4) >= 1_000_000_000);
+    if starts.first() > Some(&0) || falls || carries || starts.last() > Some(&1_000_000_000_000_000) {
+        return refusal(22);
+    }
+    if clip >= count {
+        return refusal(14);
+    }
+    let from = 10 * count + lengths[..clip].iter().sum::<usize>();
+    Ok((starts[clip], from..from + lengths[clip]))
+}
+
+/// Small files, and files that are not quite one: each is judged as by hand, whichever clip is asked for.
+fn damaged_cue_files() {
+    let mut chance = Chance(6);
+    let mut seen = std::collections::BTreeMap::new();
+    for _ in 0..6_000 {
+        let lengths = chance.lengths(4, 4_000_000_000);
+        let list = cued(lengths.iter().map(|ns| (*ns, ["a.ts", "", "b"][chance.upto(2) as usize])));
+        let mut file = list.cue_file().expect("it is written");
+        for _ in 0..chance.upto(2) {
+            let at = chance.upto(file.len() as u64 - 1) as usize;
+            match chance.upto(5) {
+                0 => drop(file.remove(at)),
+                1 => file.insert(at, chance.upto(255) as u8),
+                2 => drop(file.drain(..at)),
+                // A byte one more or less, or any other.
+                3 => file[at] = file[at].wrapping_add(1),
+                4 => file[at] = file[at].wrapping_sub(1),
+                _ => file[at] = chance.upto(255) as u8,
+            }
+        }
+        let all = cues_of(&file);
+        for clip in 0..7 {
+            let hand = cue_by_hand(&file, clip);
+            let found = read_cue(&file, clip);
+            assert_eq!(found.as_ref().map(|cue| (cue.start_ns, cue.place.clone())).map_err(|refusal| *refusal), hand);
+            assert!(found.iter().all(|cue| cue.uri == &file[cue.place.clone()]));
+            let number = hand.err().map_or(0, |refusal| refusal.number);
+            assert_eq!(all.is_ok(), number == 0 || number == 14);
+            *seen.entry(number).or_insert(0) += 1;
+        }
+    }
+    assert!(seen.keys().eq(&[0, 14, 19, 20, 21, 22]) && seen.values().all(|times| 100 < *times), "{:?}", seen);
+}
+
+/// Each refusal of the reader, and what stands just beside it.
+fn cue_reading_refused() {
+    let with = |changes: &[(usize, u8)]| {
+        let mut file = CUE_FILE.to_vec();
+        changes.iter().for_each(|(at, byte)| file[*at] = *byte);
+        cues_of(&file).map(|found| found.len()).map_err(|refusal| refusal.number)
+    };
+    assert_eq!(with(&[]), Ok(3));
+    assert_eq!(with(&[(41, 0)]), Ok(3)); // a URI may be any bytes
+    assert_eq!((with(&[(53, 2)]), with(&[(53, 0)]), with(&[(52, 1)])), (Err(20), Err(20), Err(20)));
+    assert_eq!((with(&[(51, 2)]), with(&[(51, 4)]), with(&[(50, 1)])), (Err(21), Err(21), Err(21)));
+    assert_eq!((with(&[(49, 29)]), with(&[(45, 1)]), with(&[(29, 3)])), (Err(21), Err(21), Err(21)));
+    assert_eq!(with(&[(9, 3), (29, 5)]), Ok(3)); // the lengths still fit
+    assert_eq!(
+        (with(&[(7, 1)]), with(&[(3, 1)]), with(&[(23, 8)]), with(&[(13, 10)])),
+        (Err(22), Err(22), Err(22), Err(22))
+    );
+    assert_eq!(with(&[(15, 0xC6), (16, 0x5D)]), Ok(3)); // equal starts
+    assert_eq!(with(&[(15, 0xC6), (16, 0x5D), (17, 0x41)]), Err(22)); // a ns later than the next
+
+    // 999,999,999 ns and a whole second of them; 1,000,000 s, and a ns more.
+    let last = |seconds: u32, ns: u32| {
+        let bytes = seconds.to_be_bytes().into_iter().chain(ns.to_be_bytes());
+        with(&(20..).zip(bytes).collect::<Vec<_>>())
+    };
+    assert_eq!((last(9, 999_999_999), last(9, 1_000_000_000), last(8, 2_000_000_000)), (Ok(3), Err(22), Err(22)));
+    assert_eq!((last(1_000_000, 0), last(1_000_000, 1), last(u32::MAX, u32::MAX)), (Ok(3), Err(22), Err(22)));
+    // 20 before 21 before 22; and 19 whatever the bytes are.
+    assert_eq!((with(&[(53, 2), (51, 2), (7, 1)]), with(&[(51, 2), (7, 1)])), (Err(20), Err(21)));
+    for length in 0..12 {
+        assert_eq!(cues_of(&CUE_FILE[54 - length..]), refusal(19));
+    }
+    assert_eq!(cues_of(&[0; 12]), refusal(20));
+}
+
+/// The clips of a file can be taken from both ends; what was taken is gone, and after the last there is none.
+fn cues_from_both_ends() {
+    let file = cued([(5, "ab"), (7, ""), (0, "cde"), (9, "f")]).cue_file().expect("it is written");
+    let taken = |cue: Cue| (cue.start_ns, cue.place);
+    let mut left = cues(&file).expect("it is read");
+    assert_eq!((left.len(), left.size_hint()), (4, (4, Some(4))));
+    assert_eq!((left.next().map(taken), left.next_back().map(taken)), (Some((0, 40..42)), Some((12, 45..46))));
+    let rest = left.clone();
+    assert_eq!((left.next_back().map(taken), left.next().map(taken)), (Some((12, 42..45)), Some((5, 42..42))));
+    assert_eq!((left.len(), left.next(), left.next_back(), left.next()), (0, None, None, None));
+    assert_eq!(rest.map(taken).collect::<Vec<_>>(), [(5, 42..42), (12, 42..45)]);
+    assert!(format!("{:?}", cues(&file)).starts_with("Ok(Cues"));
+}
+
 fn heads() {
     let list = parsed(
         "#EXTM3U\n#EXT-X-VERSION:6\n#EXT-X-TARGETDURATION:3\n#EXT-X-MEDIA-SEQUENCE:338559\n\
@@ -643,7 +915,7 @@ fn refusals() {
     let refusal = Refusal { number: 5, place: 8 };
     assert!(refusal.to_string().starts_with("refused 5 at 8: "));
     let unknown = |number| Refusal { number, place: 0 }.reason() == "unknown";
-    assert!(unknown(0) && !(1..=18).any(unknown) && unknown(19));
+    assert!(unknown(0) && !(1..=22).chain([33]).any(unknown) && unknown(23) && unknown(32) && unknown(34));
 }
 
 fn verdicts() {
@@ -754,6 +1026,12 @@ const CASES: &[Case] = &[
     ("longest reel", longest_reel),
     ("too long for windows", too_long_for_windows),
     ("windows from both ends", windows_from_both_ends),
+    ("the cue file", the_cue_file),
+    ("cue files undone", cue_files_undone),
+    ("cue writing refused", cue_writing_refused),
+    ("cue reading refused", cue_reading_refused),
+    ("damaged cue files", damaged_cue_files),
+    ("cues from both ends", cues_from_both_ends),
     ("heads", heads),
     ("maps and unknown tags", maps_and_unknown_tags),
     ("edges", edges),

@@ -13,6 +13,8 @@ use Rattle.media.specs.Calls.{Read, read}
 use Rattle.playing.specs.Playing.{Pair, pair, Playing, playing}
 use Rattle.window.specs.Window.{Window, none, range}
 use Rattle.windows.specs.Table.{windowRecord}
+use Rattle.text.specs.Nom.{span}
+use Rattle.cue_file.specs.Read.{Found, found}
 use Rattle.ledgerfern.specs.declared.Verdict as verdictᵈ
 use Rattle.ledgerfern.specs.declared.Read as readᵈ
 use Rattle.ledgerfern.specs.declared.Value as valueᵈ
@@ -21,7 +23,9 @@ use Rattle.ledgerfern.specs.declared.Playing as playingᵈ
 use Rattle.ledgerfern.specs.declared.Starts as startsᵈ
 use Rattle.ledgerfern.specs.declared.Window as windowᵈ
 use Rattle.ledgerfern.specs.declared.Windows as windowsᵈ
-use Rattle.ledgerfern.specs.Numbers.{verdictNumbers, valueNumbers, onNumbers, playingNumbers, startsNumbers, windowNumbers, windowsNumbers, readNumbers}
+use Rattle.ledgerfern.specs.declared.Written as writtenᵈ
+use Rattle.ledgerfern.specs.declared.Cue as cueᵈ
+use Rattle.ledgerfern.specs.Numbers.{verdictNumbers, valueNumbers, onNumbers, playingNumbers, startsNumbers, windowNumbers, windowsNumbers, writtenNumbers, cueNumbers, readNumbers}
 use Rattle.ledgerfern.specs.Heads.{markFrom, headFrom}
 use Rattle.ledgerfern.proofs.HeadNumbers.{mark-in, numbers-in}
 
@@ -118,6 +122,26 @@ windows-faithful = only-by windowsNumbers windowsBack go
     go : (a : Answer ℕ) → windowsBack (windowsNumbers a) ≡ a
     go (refused r p) = row-back r p _
     go (given n) = refl
+
+abbrev writtenBack : writtenᵈ.Written → Answer ℕ
+writtenBack v = answerFrom (v .number) (v .place) (v .length)
+
+pub written-faithful : Only writtenNumbers
+written-faithful = only-by writtenNumbers writtenBack go
+  where
+    go : (a : Answer ℕ) → writtenBack (writtenNumbers a) ≡ a
+    go (refused r p) = row-back r p _
+    go (given n) = refl
+
+abbrev cueBack : cueᵈ.Cue → Answer Found
+cueBack v = answerFrom (v .number) (v .place) (found (v .start) (span (v .«uri_start») (v .«uri_end»)) (v .clips))
+
+pub cue-faithful : Only cueNumbers
+cue-faithful = only-by cueNumbers cueBack go
+  where
+    go : (a : Answer Found) → cueBack (cueNumbers a) ≡ a
+    go (refused r p) = row-back r p _
+    go (given (found start (span a b) clips)) = refl
 
 abbrev readBack : readᵈ.Read → Answer Read
 readBack r = answerFrom (r .number) (r .place) (read (headFrom (r .head)) (r .clips) (r .tags) (r .stop))

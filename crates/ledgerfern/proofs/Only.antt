@@ -6,6 +6,7 @@ use Prim.Native.Nat.{ℕ}
 use Rattle.tables.specs.Refusal.{Answer}
 use Rattle.playing.specs.Playing.{Pair, Playing}
 use Rattle.window.specs.Window.{Window}
+use Rattle.cue_file.specs.Read.{Found}
 use Rattle.ledgerfern.specs.declared.Verdict as verdictᵈ
 use Rattle.ledgerfern.specs.declared.Read as readᵈ
 use Rattle.ledgerfern.specs.declared.Value as valueᵈ
@@ -14,9 +15,10 @@ use Rattle.ledgerfern.specs.declared.Playing as playingᵈ
 use Rattle.ledgerfern.specs.declared.Starts as startsᵈ
 use Rattle.ledgerfern.specs.declared.Window as windowᵈ
 use Rattle.ledgerfern.specs.declared.Windows as windowsᵈ
+use Rattle.ledgerfern.specs.declared.Cue as cueᵈ
 use Rattle.ledgerfern.specs.declared.Head as headᵈ
 use Rattle.ledgerfern.specs.declared.Written as writtenᵈ
-use Rattle.ledgerfern.specs.Numbers.{verdictNumbers, valueNumbers, onNumbers, playingNumbers, windowNumbers, ReadAs, StartsAs, WindowsAs}
+use Rattle.ledgerfern.specs.Numbers.{verdictNumbers, valueNumbers, onNumbers, playingNumbers, windowNumbers, cueNumbers, ReadAs, StartsAs, WindowsAs, CueWriteAs}
 use Rattle.ledgerfern.specs.Write.{WriteAs}
 
 -- of a promise `r ≡ x`
@@ -57,6 +59,18 @@ module _ {text t : List ℕ} {n : ℕ} {out₀ out out′ : List ℕ} {r r′ : 
 
   pub window-table-once : out ≡ out′
   window-table-once = one _ out out′ (p .out-after) (q .out-after)
+
+-- `ledgerfern_cue_write`, at the same text, words and count, and the same output
+module _ {text t : List ℕ} {n : ℕ} {out₀ out out′ : List ℕ} {r r′ : writtenᵈ.Written} (p : CueWriteAs text t n out₀ out r) (q : CueWriteAs text t n out₀ out′ r′) where
+  pub cue-written-once : r ≡ r′
+  cue-written-once = one _ r r′ (p .answered) (q .answered)
+
+  pub cue-file-once : out ≡ out′
+  cue-file-once = one _ out out′ (p .out-after) (q .out-after)
+
+-- `ledgerfern_cue_read`
+pub cue-once : (x : Answer Found) (a b : cueᵈ.Cue) → a ≡ cueNumbers x → b ≡ cueNumbers x → a ≡ b
+cue-once x = one (cueNumbers x)
 
 -- `ledgerfern_read`, at the same text and the same tables
 module _ {text clips₀ tags₀ clips clips′ tags tags′ : List ℕ} {r r′ : readᵈ.Read} (p : ReadAs text clips₀ tags₀ clips tags r) (q : ReadAs text clips₀ tags₀ clips′ tags′ r′) where

@@ -7,7 +7,7 @@ use mathlib.Core.Option.{none, some}
 use lib.Dec.{leb}
 use lib.ListN.{length}
 use Rattle.tables.specs.Refusal.{Answer, refused, laid, orRefuse, textTooLong, brokenTable}
-use Rattle.verdict.specs.Calls.{textLimit}
+use Rattle.tables.specs.Layout.{textLimit}
 use Rattle.assembly.specs.Assembly.{Head}
 use Rattle.playlist.specs.Calls.{writtenText, writeTo}
 use Rattle.ledgerfern.specs.declared.Head as headᵈ

@@ -6,12 +6,13 @@ use mathlib.Core.List.{List, [], _∷_, map}
 use mathlib.Core.Option.{none, some}
 use Rattle.text.specs.Nom.{span}
 use Rattle.text.specs.BasicTags.{event, vod, other}
-use Rattle.tables.specs.Refusal.{refused, given, leftOutTag, outputShort, noSuchClip, nothingPlays, tickTooLate}
+use Rattle.tables.specs.Refusal.{refused, given, leftOutTag, outputShort, noSuchClip, nothingPlays, tickTooLate, badStart, tooWide}
 use Rattle.assembly.specs.Assembly.{Head, head, emptyHead}
 use Rattle.playing.specs.Playing.{pair, playing}
 use Rattle.window.specs.Window as window
+use Rattle.cue_file.specs.Read.{found}
 use Rattle.ledgerfern.specs.declared.Head as headᵈ
-use Rattle.ledgerfern.specs.Numbers.{verdictNumbers, valueNumbers, onNumbers, playingNumbers, startsNumbers, windowNumbers, windowsNumbers, typeNumber, headNumbers, readNumbers}
+use Rattle.ledgerfern.specs.Numbers.{verdictNumbers, valueNumbers, onNumbers, playingNumbers, startsNumbers, windowNumbers, windowsNumbers, writtenNumbers, cueNumbers, typeNumber, headNumbers, readNumbers}
 use Rattle.ledgerfern.specs.Heads.{isVersion, isType, isHead, typeFrom, headFrom, headOf}
 
 -- a head of zeros but for its marks
@@ -51,6 +52,16 @@ played = refl
 
 starts : startsNumbers (given 3) ∷ startsNumbers (refused outputShort 0) ∷ [] ≡ record { number = 0; place = 0; clips = 3 } ∷ record { number = 10; place = 0; clips = 0 } ∷ []
 starts = refl
+
+-- a cue file: its bytes; a clip's start, its URI's first byte and the place after its last one, and the count
+cue-bytes : writtenNumbers (given 54) ∷ writtenNumbers (refused tooWide 0) ∷ [] ≡ record { number = 0; place = 0; length = 54 } ∷ record { number = 33; place = 0; length = 0 } ∷ []
+cue-bytes = refl
+
+cues : cueNumbers (given (found 9009000000 (span 34 38) 3)) ∷ cueNumbers (refused badStart 0) ∷ []
+    ≡ record { number = 0; place = 0; start = 9009000000; «uri_start» = 34; «uri_end» = 38; clips = 3 }
+    ∷ record { number = 22; place = 0; start = 0; «uri_start» = 0; «uri_end» = 0; clips = 0 }
+    ∷ []
+cues = refl
 
 -- a media and a master playlist
 verdicts : map (λ m. verdictNumbers (given m)) (false ∷ true ∷ []) ≡ record { number = 0; place = 0; master = 0 } ∷ record { number = 0; place = 0; master = 1 } ∷ []

@@ -6,7 +6,7 @@ use mathlib.Core.Bool.{Bool, true, false}
 use mathlib.Core.List.{List}
 use mathlib.Core.Option.{Option, none, some}
 use lib.ListN.{length}
-use Rattle.text.specs.Nom.{span}
+use Rattle.text.specs.Nom.{Span, span}
 use Rattle.text.specs.BasicTags.{PlaylistType, event, vod, other}
 use Rattle.tables.specs.Refusal.{Answer, refused, given, laid, answerNumber, answerPlace}
 use Rattle.assembly.specs.Assembly.{Head, head, emptyHead}
@@ -16,6 +16,9 @@ use Rattle.starts.specs.Table.{startRecords, allStarts}
 use Rattle.playing.specs.Playing.{Pair, pair, Playing, playing}
 use Rattle.window.specs.Window as window
 use Rattle.windows.specs.Table.{windowRecords, allWindows}
+use Rattle.cue_file.specs.Format.{version1}
+use Rattle.cue_file.specs.Write.{written, cueWrite}
+use Rattle.cue_file.specs.Read.{Found, found}
 use Rattle.ledgerfern.specs.declared.Verdict as verdictᵈ
 use Rattle.ledgerfern.specs.declared.Head as headᵈ
 use Rattle.ledgerfern.specs.declared.Read as readᵈ
@@ -26,6 +29,7 @@ use Rattle.ledgerfern.specs.declared.Starts as startsᵈ
 use Rattle.ledgerfern.specs.declared.Window as windowᵈ
 use Rattle.ledgerfern.specs.declared.Windows as windowsᵈ
 use Rattle.ledgerfern.specs.declared.Written as writtenᵈ
+use Rattle.ledgerfern.specs.declared.Cue as cueᵈ
 
 -- a mark: 1 or 0
 abbrev pub mark : Bool → ℕ
@@ -109,6 +113,34 @@ windowsNumbers a = record { number = answerNumber a; place = answerPlace a; clip
 pub record WindowsAs (text t : List ℕ) (n : ℕ) (out₀ out : List ℕ) (r : windowsᵈ.Windows) : Type 0 where
   pub answered : r ≡ windowsNumbers (allWindows text t n out₀)
   pub out-after : out ≡ laid (allWindows text t n out₀) (windowRecords text t n) out₀
+
+-- all that the writer of a cue file says: its numbers, and each byte of the output after it
+pub record CueWriteAs (text t : List ℕ) (n : ℕ) (out₀ out : List ℕ) (r : writtenᵈ.Written) : Type 0 where
+  pub answered : r ≡ writtenNumbers (cueWrite text t version1 n out₀)
+  pub out-after : out ≡ laid (cueWrite text t version1 n out₀) (written text t version1 n) out₀
+
+-- "start in ns, URI start, URI end", and the count
+abbrev pub startFound : Found → ℕ
+startFound (found start (span a b) clips) = start
+
+abbrev pub uriStartFound : Found → ℕ
+uriStartFound (found start (span a b) clips) = a
+
+abbrev pub uriEndFound : Found → ℕ
+uriEndFound (found start (span a b) clips) = b
+
+abbrev pub clipsFound : Found → ℕ
+clipsFound (found start (span a b) clips) = clips
+
+abbrev pub cueNumbers : Answer Found → cueᵈ.Cue
+cueNumbers a = record {
+  number = answerNumber a;
+  place = answerPlace a;
+  start = orZero startFound a;
+  «uri_start» = orZero uriStartFound a;
+  «uri_end» = orZero uriEndFound a;
+  clips = orZero clipsFound a;
+}
 
 -- ---- the head: "version, present or not"
 abbrev pub presentNumber : Option ℕ → ℕ

@@ -8,7 +8,9 @@ ghost use Rattle.verdict.specs.Calls.{isMasterPlaylist};
 ghost use Rattle.clock.specs.Calls as clock;
 ghost use Rattle.playing.specs.Playing as playing;
 ghost use Rattle.window.specs.Window as window;
-ghost use Rattle.ledgerfern.specs.Numbers.{verdictNumbers, valueNumbers, windowNumbers, onNumbers, playingNumbers, ReadAs, StartsAs, WindowsAs};
+ghost use Rattle.cue_file.specs.Format.{version1};
+ghost use Rattle.cue_file.specs.Read.{cueRead};
+ghost use Rattle.ledgerfern.specs.Numbers.{verdictNumbers, valueNumbers, windowNumbers, onNumbers, playingNumbers, cueNumbers, ReadAs, StartsAs, WindowsAs, CueWriteAs};
 ghost use Rattle.ledgerfern.specs.Write.{WriteAs};
 
 pub mod numbers; // the numbers of an answer
@@ -107,6 +109,17 @@ pub struct Window {
 pub struct Windows {
     pub number: u64,
     pub place: u64,
+    pub clips: u64,
+}
+
+// A clip of a cue file: its start in ns, the first byte of its URI in the file and the place after its last one; and how many clips the file has.
+#[repr(C)]
+pub struct Cue {
+    pub number: u64,
+    pub place: u64,
+    pub start: u64,
+    pub uri_start: u64,
+    pub uri_end: u64,
     pub clips: u64,
 }
 
@@ -252,4 +265,25 @@ pub extern "C" fn ledgerfern_windows(
     ensures { λ r. ⌜ WindowsAs (now (text .entry)) (now (clips .entry)) «clip_count» (now (out .entry)) (now (out .exit)) r ⌝ }
 {
     numbers::of_windows(windows::table::all_windows(text, clips, clip_count, out))
+}
+
+// The cue file of a text's clips into the lent output. A refused call leaves it as it was.
+#[no_mangle]
+pub extern "C" fn ledgerfern_cue_write(
+    text: &[u8],
+    clip_count: usize,
+    clips: &[u64],
+    out: &mut [u8],
+) -> Written
+    ensures { λ r. ⌜ CueWriteAs (now (text .entry)) (now (clips .entry)) «clip_count» (now (out .entry)) (now (out .exit)) r ⌝ }
+{
+    numbers::of_cue_written(cue_writer::write(text, clips, clip_count, out))
+}
+
+// A clip of a cue file, which is judged whole.
+#[no_mangle]
+pub extern "C" fn ledgerfern_cue_read(file: &[u8], clip: usize) -> Cue
+    ensures { λ r. ⌜ r ≡ cueNumbers (cueRead version1 (now (file .entry)) clip) ⌝ }
+{
+    numbers::of_cue(cue_reader::read(file, clip))
 }

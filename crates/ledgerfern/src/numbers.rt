@@ -1,4 +1,5 @@
 // An answer's numbers: number and place, then its values, all zero where it is refused.
+use crate::Cue;
 use crate::Head;
 use crate::On;
 use crate::Playing;
@@ -12,12 +13,14 @@ use crate::Written;
 use assembly::head;
 use assembly::head::HeadType;
 use assembly::head::Version;
+use cue_file::Found;
 use leaves::basic_tags::PlaylistType;
 use media::ParseAnswer;
 use playing::Played;
 use playlist::WriteAnswer;
 use tables::Laid;
 use tables::Refusal;
+use tables::layout;
 use verdict::MasterAnswer;
 ghost use mathlib.Core.Path.{_≡_};
 ghost use Rattle.tables.specs.Answers.{laidOf};
@@ -28,6 +31,7 @@ ghost use Rattle.clock.specs.Answers as clock;
 ghost use Rattle.playing.specs.Answers.{onOf, playedOf};
 ghost use Rattle.window.specs.Answers as window;
 ghost use Rattle.playlist.specs.Answers.{writeAnswer};
+ghost use Rattle.cue_reader.specs.Answers.{foundOf};
 ghost use Rattle.ledgerfern.specs.Write.{writeNone};
 ghost use Rattle.ledgerfern.specs.Numbers as rule;
 
@@ -180,6 +184,47 @@ pub fn of_windows(given: Laid) -> Windows
     }
 }
 
+// How many bytes of a cue file were written.
+pub fn of_cue_written(given: Laid) -> Written
+    ensures { λ r. ⌜ r ≡ rule.writtenNumbers (laidOf given) ⌝ }
+{
+    match given {
+        Laid::Refused(r) => Written {
+            number: r.number(),
+            place: 0,
+            length: 0,
+        },
+        Laid::Given(length) => Written {
+            number: 0,
+            place: 0,
+            length: length as u64,
+        },
+    }
+}
+
+pub fn of_cue(given: Found) -> Cue
+    ensures { λ r. ⌜ r ≡ rule.cueNumbers (foundOf given) ⌝ }
+{
+    match given {
+        Found::Refused(r) => Cue {
+            number: r.number(),
+            place: 0,
+            start: 0,
+            uri_start: 0,
+            uri_end: 0,
+            clips: 0,
+        },
+        Found::Given(start, uri, clips) => Cue {
+            number: 0,
+            place: 0,
+            start,
+            uri_start: uri.start as u64,
+            uri_end: uri.end as u64,
+            clips: clips as u64,
+        },
+    }
+}
+
 fn version_present(v: Version) -> u64
     ensures { λ r. ⌜ r ≡ rule.presentNumber (versionOf v) ⌝ }
 {
@@ -304,7 +349,7 @@ pub fn of_written(given: WriteAnswer) -> Written
 pub fn of_no_head(text: &[u8]) -> Written
     ensures { λ r. ⌜ r ≡ rule.writtenNumbers (writeNone (now (text .entry))) ⌝ }
 {
-    if verdict::TEXT_LIMIT < text.len() {
+    if layout::TEXT_LIMIT < text.len() {
         return of_written(WriteAnswer::Refused(Refusal::TextTooLong));
     }
     of_written(WriteAnswer::Refused(Refusal::BrokenTable))

@@ -7,7 +7,7 @@ use native.Mathlib.Omega.{arith}
 use lib.ListN.{length}
 use borrow.Author.Tests.{le-leb, lt-leb}
 use Rattle.tables.specs.Refusal.{refused, given, textTooLong, brokenTable, outputShort}
-use Rattle.verdict.specs.Calls.{textLimit}
+use Rattle.tables.specs.Layout.{textLimit}
 use Rattle.assembly.specs.Assembly.{Head}
 use Rattle.rule9.specs.Rule9.{keepsRule}
 use Rattle.playlist.specs.Calls.{writtenText, writeTo}

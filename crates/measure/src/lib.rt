@@ -3,6 +3,7 @@ use crate::room::Room;
 use assembly::head::Head;
 use playlist::WriteAnswer;
 use tables::Refusal;
+use tables::layout;
 ghost use mathlib.Core.Path.{_≡_};
 ghost use Rattle.assembly.specs.Answers.{headSeen};
 ghost use Rattle.playlist.specs.Calls.{writeTo};
@@ -23,7 +24,7 @@ pub fn measured(
 ) -> WriteAnswer
     ensures { λ r. ⌜ writeAnswer r ≡ writeTo (now (text .entry)) (headSeen head) (now (clips .entry)) «clip_count» (now (tags .entry)) «tag_count» room ⌝ }
 {
-    if verdict::TEXT_LIMIT < text.len() {
+    if layout::TEXT_LIMIT < text.len() {
         return WriteAnswer::Refused(Refusal::TextTooLong);
     }
     if !rule9::keeps_rule(text, head, clips, clip_count, tags, tag_count) {

@@ -6,7 +6,7 @@ use assembly::head::Head;
 ghost use mathlib.Core.Path.{_≡_};
 ghost use Prim.Native.Nat.{_+_, _^_, _≤_, _<_};
 ghost use Rattle.tables.specs.Table.{listed};
-ghost use Rattle.verdict.specs.Calls.{textLimit};
+ghost use Rattle.tables.specs.Layout.{textLimit};
 ghost use Rattle.assembly.specs.Answers.{headTypeOf, headSeen, clipSeen};
 ghost use Rattle.records.specs.Records.{tagAt, clipsAt};
 ghost use Rattle.measure.specs.Inside.Below.{TypeBelow, ClipBelow, TagsBelow, ClipsBelow, RunsWithin};

@@ -22,7 +22,7 @@ ghost use Rattle.text.specs.Answers.{partOf};
 ghost use Rattle.leaves.specs.Answers.{byteRangeOf, extTagOf};
 ghost use Rattle.attributes.specs.Answers.{optRangeOf};
 ghost use Rattle.digits.specs.Digits.{numberText};
-ghost use Rattle.verdict.specs.Calls.{textLimit};
+ghost use Rattle.tables.specs.Layout.{textLimit};
 ghost use Rattle.assembly.specs.Answers.{versionOf, headTypeOf, headSeen, segmentMapOf, clipSeen};
 ghost use Rattle.playlist.specs.Lines.{versionLine, rangeBytes, lineIf, linesText};
 ghost use Rattle.measure.specs.Inside.Below.{PartBelow, TypeBelow, MapBelow, TagBelow, ClipBelow};

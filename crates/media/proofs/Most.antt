@@ -22,7 +22,8 @@ use Rattle.lengths.specs.Duration as lengths
 use Rattle.tables.specs.Layout.{clipWords, tagWords}
 use Rattle.tables.specs.Refusal.{Answer, refused, given, orRefuse, answerNumber, textTooLong, notUtf8, noHeader, clipTableShort, tagTableShort}
 use Rattle.verdict.specs.Verdict.{Verdict, master, media}
-use Rattle.verdict.specs.Calls.{textLimit, header, admitted, andThen, verdictOf}
+use Rattle.tables.specs.Layout.{textLimit}
+use Rattle.verdict.specs.Calls.{header, admitted, andThen, verdictOf}
 use Rattle.tags.specs.Tags.{timedOf, Tag, ofHead, ofClip, unknown, comment, uri, leftOut, Taken, took}
 use Rattle.tags.specs.Tags as tags
 use Rattle.tags.proofs.Takes.{takes-step}

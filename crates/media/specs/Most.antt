@@ -1,7 +1,8 @@
 -- The most records that a reading can need: a caller who lends tables of so many records is never refused by 7 or 8. Assumes nothing.
 use Prim.Native.Nat.{ℕ, _+_, _-_, _/_}
 use lib.ListN.{length}
-use Rattle.verdict.specs.Calls.{textLimit, header}
+use Rattle.tables.specs.Layout.{textLimit}
+use Rattle.verdict.specs.Calls.{header}
 
 -- the fewest bytes of a clip: a URI of one byte and a line's end
 abbrev pub leastClip : ℕ

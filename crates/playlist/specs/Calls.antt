@@ -5,7 +5,7 @@ use mathlib.Core.List.{List}
 use lib.Dec.{leb}
 use lib.ListN.{length}
 use Rattle.tables.specs.Refusal.{Answer, given, laid, orRefuse, textTooLong, brokenTable, outputShort}
-use Rattle.verdict.specs.Calls.{textLimit}
+use Rattle.tables.specs.Layout.{textLimit}
 use Rattle.assembly.specs.Assembly.{Head}
 use Rattle.records.specs.Records.{clipsAt, tagsAt}
 use Rattle.rule9.specs.Rule9.{keepsRule}

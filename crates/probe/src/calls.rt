@@ -138,7 +138,7 @@ fn write_and_print(
     out: &mut [u8],
 ) -> Waits {
     let given = ledgerfern::ledgerfern_write(text, head, clips, clip_words, tags, tag_words, out);
-    lines::writer(to, waits, given, out)
+    lines::writer(to, waits, 3, given, out)
 }
 
 // Behind the text: the head, both tables, the output.
@@ -431,4 +431,84 @@ pub fn windows(
     let input = bytes.rest;
     let next = State { input, waits };
     windows_of_text(next, from, to, &text[0..length], clips, out)
+}
+
+// The output is printed as the call leaves it.
+fn cue_and_print(
+    to: &mut [u8; output::ROOM],
+    waits: Waits,
+    text: &[u8],
+    clips: usize,
+    words: &[u64],
+    out: &mut [u8],
+) -> Waits {
+    let given = ledgerfern::ledgerfern_cue_write(text, clips, words, out);
+    lines::writer(to, waits, 9, given, out)
+}
+
+// Behind the text: the table, the output.
+fn cue_of_text(
+    s: State,
+    from: &mut [u8; input::ROOM],
+    to: &mut [u8; output::ROOM],
+    text: &[u8],
+    clips: &mut [u64],
+    out: &mut [u8],
+) -> State {
+    let waits = s.waits;
+    let table = take_table(s.input, from, clips);
+    let clip_end = table.words;
+    let room = input::bytes(table.input, STDIN_FILENO, from, out);
+    let room_end = room.count;
+    let input = room.rest;
+    let stop = input.stop;
+    if stop.happened() {
+        return State { input, waits };
+    }
+    let waits = cue_and_print(
+        to,
+        waits,
+        text,
+        table.entries,
+        &clips[0..clip_end],
+        &mut out[0..room_end],
+    );
+    State { input, waits }
+}
+
+pub fn cue_writer(
+    s: State,
+    from: &mut [u8; input::ROOM],
+    to: &mut [u8; output::ROOM],
+    text: &mut [u8],
+    clips: &mut [u64],
+    out: &mut [u8],
+) -> State {
+    let waits = s.waits;
+    let bytes = input::bytes(s.input, STDIN_FILENO, from, text);
+    let length = bytes.count;
+    let input = bytes.rest;
+    let next = State { input, waits };
+    cue_of_text(next, from, to, &text[0..length], clips, out)
+}
+
+// The file, the clip.
+pub fn cue_reader(
+    s: State,
+    from: &mut [u8; input::ROOM],
+    to: &mut [u8; output::ROOM],
+    file: &mut [u8],
+) -> State {
+    let waits = s.waits;
+    let bytes = input::bytes(s.input, STDIN_FILENO, from, file);
+    let length = bytes.count;
+    let clip = input::number(bytes.rest, STDIN_FILENO, from);
+    let input = clip.rest;
+    let stop = input.stop;
+    if stop.happened() {
+        return State { input, waits };
+    }
+    let given = ledgerfern::ledgerfern_cue_read(&file[0..length], clip.value as usize);
+    let waits = lines::cue(to, waits, given);
+    State { input, waits }
 }

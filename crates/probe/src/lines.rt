@@ -1,5 +1,6 @@
 // What is printed. A line begins with op, number and place; a refused call has zeros for all that follows but the lent memory.
 use input::Stop;
+use ledgerfern::Cue;
 use ledgerfern::Head;
 use ledgerfern::On;
 use ledgerfern::Playing;
@@ -166,14 +167,26 @@ fn hex(to: &mut [u8; ROOM], waits: Waits, bytes: &[u8]) -> Waits {
     waits
 }
 
-// The answer of the writer, and the output as the call left it.
-pub fn writer(to: &mut [u8; ROOM], waits: Waits, r: Written, out: &[u8]) -> Waits {
-    let waits = answer(to, waits, 3, r.number, r.place, &[r.length]);
+// The answer of a writer, of a playlist or of a cue file, and the output as the call left it.
+pub fn writer(to: &mut [u8; ROOM], waits: Waits, op: u64, r: Written, out: &[u8]) -> Waits {
+    let waits = answer(to, waits, op, r.number, r.place, &[r.length]);
     let waits = text(to, waits, b" | ");
     let waits = if out.len() == 0 {
         text(to, waits, b"-")
     } else {
         hex(to, waits, out)
     };
+    end_line(to, waits)
+}
+
+pub fn cue(to: &mut [u8; ROOM], waits: Waits, r: Cue) -> Waits {
+    let waits = answer(
+        to,
+        waits,
+        10,
+        r.number,
+        r.place,
+        &[r.start, r.uri_start, r.uri_end],
+    );
     end_line(to, waits)
 }

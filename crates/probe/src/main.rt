@@ -8,6 +8,8 @@
 //   6 window              text, number of clips, clip words, clip
 //   7 ticks of a clip     as 5
 //   8 clip at a tick      number of clips, clip words, rate, tick
+//   9 cue writer          text, number of clips, clip words, output
+//  10 cue reader          file, clip
 //  13 since and left      as 8
 //  14 all starts          number of clips, clip words, rate, turn, words of the table of starts
 //  28 start in ns         number of clips, clip words, clip
@@ -67,6 +69,8 @@ fn call(
         3 => calls::writer(s, from, to, text, clips, tags, out),
         4 | 5 | 7 | 8 | 13 | 28 => calls::over_clips(op, s, from, to, clips),
         6 => calls::window(s, from, to, text, clips),
+        9 => calls::cue_writer(s, from, to, text, clips, out),
+        10 => calls::cue_reader(s, from, to, text),
         14 => calls::starts(s, from, to, clips, tags),
         29 => calls::windows(s, from, to, text, clips, tags),
         _ => return Step::Last(lines::text(to, waits, b"unknown op\n")),

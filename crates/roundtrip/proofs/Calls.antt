@@ -8,7 +8,7 @@ use borrow.Author.Tests.{le-leb}
 use lib.ListN.{length, take, drop}
 use Rattle.tables.specs.Refusal.{Answer, given, orRefuse, textTooLong, brokenTable, outputShort}
 use Rattle.tables.proofs.Refusals.{front-or}
-use Rattle.verdict.specs.Calls.{textLimit}
+use Rattle.tables.specs.Layout.{textLimit}
 use Rattle.assembly.specs.Assembly.{Head}
 use Rattle.lengths.specs.Binary32.{secondsBits}
 use Rattle.media.specs.Calls.{Read, read, parseMediaPlaylist, ParsedAs}

@@ -12,7 +12,8 @@ use Rattle.text.specs.Nom.{bytes}
 use Rattle.text.specs.Utf8.{utf8End}
 use Rattle.tables.specs.Layout.{clipWords, tagWords}
 use Rattle.tables.specs.Refusal.{given}
-use Rattle.verdict.specs.Calls.{textLimit, admitted}
+use Rattle.tables.specs.Layout.{textLimit}
+use Rattle.verdict.specs.Calls.{admitted}
 use Rattle.assembly.specs.Assembly.{Head, begin, lastOf, clipCount, keptTags}
 use Rattle.media.specs.Calls.{stepsOf, stopOf, read, parseMediaPlaylist, clipsRead, tagsRead}
 use Rattle.text.specs.Spans.{shown, sameBytes}

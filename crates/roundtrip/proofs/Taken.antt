@@ -12,7 +12,8 @@ use Rattle.text.specs.Utf8.{utf8End}
 use Rattle.text.proofs.Blanks.{not-blank-after}
 use Rattle.tables.specs.Refusal.{given, textTooLong, notUtf8, noHeader}
 use Rattle.tables.proofs.Refusals.{front-or}
-use Rattle.verdict.specs.Calls.{textLimit, header, admitted}
+use Rattle.tables.specs.Layout.{textLimit}
+use Rattle.verdict.specs.Calls.{header, admitted}
 use Rattle.tags.specs.Tags.{step}
 use Rattle.media.specs.Calls.{firstStep, stepsOf}
 use Rattle.records.proofs.Back.{All}

@@ -8,7 +8,7 @@ use lib.ListN.{length, take}
 use Rattle.tables.specs.Layout as layout
 use Rattle.tables.specs.Table.{clipWord}
 use Rattle.tables.specs.Refusal.{Answer, given}
-use Rattle.verdict.specs.Calls.{textLimit}
+use Rattle.tables.specs.Layout.{textLimit}
 use Rattle.assembly.specs.Assembly.{Head}
 use Rattle.media.specs.Calls.{Read, read, ParsedAs}
 use Rattle.records.specs.Records.{clipsAt, tagsAt}

@@ -1,22 +1,20 @@
 -- What is printed at each exit: 1 by the program's own size, the reader's refusals, and the sheet of what was read. Rests on the reader's guarantees.
 -- Assumes nothing.
 use Prim.Native.Nat.{ℕ, _≤_, _<_}
-use mathlib.Core.Path.{_≡_, _∙_}
+use mathlib.Core.Path.{_≡_}
 use mathlib.Core.Bool.{Bool, true, false}
 use mathlib.Core.List.{List, [], _++_}
 use lib.ListN.{length}
 use borrow.Author.Tests.{le-leb, lt-leb}
 use Rattle.tables.specs.Refusal.{Refusal, refused, given, laid, numberOf}
-use Rattle.assembly.specs.Assembly.{begin, lastOf, clipCount}
 use Rattle.assembly.specs.Words.{clipsWords}
-use Rattle.media.specs.Calls.{stepsOf, parseMediaPlaylist, clipsRead}
+use Rattle.media.specs.Calls.{parseMediaPlaylist, clipsRead}
 use Rattle.media.specs.declared.Read as readᵈ
 use Rattle.media.specs.Answers.{readSeen}
-use Rattle.media.proofs.ThrownOut.{clips-counted}
-use Rattle.roundtrip.proofs.Accepted.{accepted-parts}
-use Rattle.roundtrip.proofs.Taken.{all-sound}
-use Rattle.roundtrip.proofs.Guaranteed.{list-sound}
-use Rattle.sheet.specs.Sheet.{textSize, clipRoom, tagRoom, refusedLine, readSheet, printed, sheetText, programText}
+use Rattle.read_clips.proofs.Table.{clips-count, clips-sound}
+use Rattle.printing.specs.Lines.{refusedLine}
+use Rattle.printing.specs.Said.{printed}
+use Rattle.sheet.specs.Sheet.{textSize, clipRoom, tagRoom, readSheet, sheetText, programText}
 use Rattle.sheet.specs.Inside.Pass.{wordsSheet}
 use Rattle.sheet.proofs.Words.{words-sheet}
 
@@ -36,20 +34,13 @@ module _ (text : List ℕ) where
 
     -- the words of the clips that were read, with whatever stands behind them
     module _ (r : readᵈ.Read) (e : parseMediaPlaylist text clipRoom tagRoom ≡ given (readSeen r)) where
-      count : r .clips ≡ length (clipsRead text)
-      count =
-          let answer = accepted-parts text clipRoom tagRoom (readSeen r) e .answer in
-          let n : r .clips ≡ clipCount (lastOf begin (stepsOf text)) = cc in
-          n ∙ clips-counted text
-
       sheet-read : (rest : List ℕ) → wordsSheet text (clipsWords (clipsRead text) ++ rest) (length (clipsRead text)) ≡ readSheet text
       unfolding readSheet
       sheet-read rest =
-          let sound = list-sound text (all-sound text (accepted-parts text clipRoom tagRoom (readSeen r) e .admits)) in
-          rw e (words-sheet text rest (clipsRead text) (sound .clips))
+          rw e (words-sheet text rest (clipsRead text) (clips-sound text clipRoom tagRoom r e))
 
       pub was-read : (entry words : List ℕ) → words ≡ laid (parseMediaPlaylist text clipRoom tagRoom) (clipsWords (clipsRead text)) entry → printed (wordsSheet text words (r .clips)) ≡ sheetText text
-      was-read entry words w = rw (w, e, count, sheet-read _) within
+      was-read entry words w = rw (w, e, clips-count text clipRoom tagRoom r e, sheet-read _) within
 
 -- ---- a read that failed, and one that did not
 module _ (failed : Bool) (text : List ℕ) where

@@ -15,7 +15,9 @@ use Rattle.tags.specs.Tags as tags
 use Rattle.assembly.specs.Assembly.{next, lastOf, clipsOf}
 use Rattle.media.specs.Calls.{firstStep, stepsOf, stopOf, unlessMet, parseMediaPlaylist, clipsRead}
 use Rattle.clock.specs.Clock.{tickOf}
-use Rattle.sheet.specs.Sheet.{numberLine, field, refusedLine, clipLine, totalLine, clipLines, totalOf, sheetOf, readSheet, sheetText}
+use Rattle.read_clips.specs.Lists.{totalOf}
+use Rattle.printing.specs.Lines.{numberLine, field, refusedLine}
+use Rattle.sheet.specs.Sheet.{clipLine, totalLine, clipLines, sheetOf, readSheet, sheetText}
 
 abbrev texts : List (List ℕ)
 texts =

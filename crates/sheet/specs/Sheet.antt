@@ -6,12 +6,14 @@ use lib.Dec.{leb}
 use lib.ListN.{length}
 use Rattle.text.specs.Nom.{bytes}
 use Rattle.text.specs.Spans.{shown}
-use Rattle.digits.specs.Digits.{numberText}
 use Rattle.tables.specs.Layout.{clipWords, tagWords}
-use Rattle.tables.specs.Refusal.{Answer, refused, given, orRefuse, numberOf, textTooLong, totalTooLong}
+use Rattle.tables.specs.Refusal.{Answer, given, orRefuse, textTooLong, totalTooLong}
 use Rattle.assembly.specs.Assembly.{Clip}
-use Rattle.media.specs.Calls.{Read, parseMediaPlaylist, clipsRead}
+use Rattle.media.specs.Calls.{parseMediaPlaylist, clipsRead}
 use Rattle.clock.specs.Clock.{largestTotal, tickOf}
+use Rattle.read_clips.specs.Lists.{nsOf, totalOf, onceRead}
+use Rattle.printing.specs.Lines.{numberLine, field}
+use Rattle.printing.specs.Said.{printed}
 
 -- ---- sizes: "reads standard input (480 clips, 2,048 unknown tags)"; "text above 65,536 bytes" is refused
 abbrev pub textSize : ℕ
@@ -28,17 +30,6 @@ abbrev pub sheetRate : ℕ
 sheetRate = 100
 
 -- ---- lines
--- a number that ends a line, and one before a tab: "tab between fields"
-unfoldable pub numberLine : ℕ → List ℕ
-numberLine n = numberText n ++ bytes "\n"
-
-unfoldable pub field : ℕ → List ℕ
-field n = numberText n ++ bytes "\t"
-
--- "A refusal prints only `refused 5 at 8` with its own numbers."
-unfoldable pub refusedLine : ℕ → ℕ → List ℕ
-refusedLine number place = bytes "refused " ++ (numberText number ++ (bytes " at " ++ numberLine place))
-
 -- "the header below"
 abbrev pub headerLine : List ℕ
 headerLine = bytes "clip\tstart\tlength\ttick\turi\n"
@@ -52,36 +43,21 @@ unfoldable pub totalLine : ℕ → List ℕ
 totalLine ns = bytes "total\t" ++ numberLine ns
 
 -- ---- the clips that were read
-abbrev pub nsOf : Clip → ℕ
-nsOf c = c .segment .length
-
 -- the first of these has this number and this start, and each other one starts where the one before it ends; "start tick of turn 0", where a moment is the start itself
 unfoldable pub clipLines : List ℕ → ℕ → ℕ → List Clip → List ℕ
 clipLines text number start [] = []
 clipLines text number start (c ∷ clips) = clipLine number start (nsOf c) (tickOf start sheetRate) (shown text (c .uri)) ++ clipLines text (suc number) (start + nsOf c) clips
-
-unfoldable pub totalOf : List Clip → ℕ
-totalOf [] = 0
-totalOf (c ∷ clips) = nsOf c + totalOf clips
 
 unfoldable pub sheetOf : List ℕ → List Clip → List ℕ
 sheetOf text clips = headerLine ++ (clipLines text 0 0 clips ++ totalLine (totalOf clips))
 
 -- ---- what is printed: 1 by the program's own size; the reader's refusals; of the clock's only 11, since lengths that were read are below 10^18 and rate and
 -- turn are in their limits; or the sheet
-abbrev pub onceRead : {A : Type 0} → Answer Read → Answer A → Answer A
-onceRead (refused r p) answer = refused r p
-onceRead (given a) answer = answer
-
 unfoldable pub readSheet : List ℕ → Answer (List ℕ)
 readSheet text =
     onceRead (parseMediaPlaylist text clipRoom tagRoom)
     (orRefuse (leb (totalOf (clipsRead text)) largestTotal) totalTooLong 0
     (given (sheetOf text (clipsRead text))))
-
-abbrev pub printed : Answer (List ℕ) → List ℕ
-printed (refused r p) = refusedLine (numberOf r) p
-printed (given t) = t
 
 unfoldable pub sheetText : List ℕ → List ℕ
 sheetText text = printed (orRefuse (leb (length text) textSize) textTooLong 0 (readSheet text))

@@ -1,4 +1,4 @@
-// What is printed. Each function takes what waits in the output, and answers what waits after it; `sheet` and `refused` print the whole.
+// What is printed. Each function takes what waits in the output, and answers what waits after it; `sheet` prints the whole.
 use libc::STDOUT_FILENO;
 use output::ROOM;
 use output::Waits;
@@ -14,41 +14,16 @@ ghost use Rattle.starts.specs.Starts.{next};
 ghost use Rattle.sheet.specs.Sheet as rule;
 ghost use Rattle.sheet.specs.Inside.Pass as inside;
 
-// The only line of a refused text.
-pub fn refused(to: &mut [u8; ROOM], number: u64, place: usize) -> Waits
-    ensures { λ r. ⌜ PutsFirst (now (to .exit)) r (rule.refusedLine number place) ⌝ }
-{
-    let waits = output::put_bytes(STDOUT_FILENO, to, Waits::none(), b"refused ");
-    let waits = output::put_number(STDOUT_FILENO, to, waits, number);
-    let waits = output::put_bytes(STDOUT_FILENO, to, waits, b" at ");
-    number_line(to, waits, place as u64)
-}
-
-fn number_line(to: &mut [u8; ROOM], waits: Waits, number: u64) -> Waits
-    ensures { λ r. ⌜ Puts (now (to .entry)) (now (to .exit)) waits r (rule.numberLine number) ⌝ }
-{
-    let waits = output::put_number(STDOUT_FILENO, to, waits, number);
-    output::put_byte(STDOUT_FILENO, to, waits, b'\n')
-}
-
-// A number that more fields follow.
-fn field(to: &mut [u8; ROOM], waits: Waits, number: u64) -> Waits
-    ensures { λ r. ⌜ Puts (now (to .entry)) (now (to .exit)) waits r (rule.field number) ⌝ }
-{
-    let waits = output::put_number(STDOUT_FILENO, to, waits, number);
-    output::put_byte(STDOUT_FILENO, to, waits, b'\t')
-}
-
 // Number, start, length and tick as the cursor has them; the URI's bytes as they stand in the text.
 fn clip(to: &mut [u8; ROOM], waits: Waits, text: &[u8], words: &[u64], row: Row) -> Waits
     ensures { λ r. ⌜ Puts (now (to .entry)) (now (to .exit)) waits r (inside.rowLine (now (text .entry)) (now (words .entry)) (rowOf row)) ⌝ }
 {
     let start = record::clip_word(words, row.clip, layout::URI_START);
     let end = record::clip_word(words, row.clip, layout::URI_END);
-    let waits = field(to, waits, row.clip as u64);
-    let waits = field(to, waits, row.start);
-    let waits = field(to, waits, row.length);
-    let waits = field(to, waits, row.tick);
+    let waits = printing::field(STDOUT_FILENO, to, waits, row.clip as u64);
+    let waits = printing::field(STDOUT_FILENO, to, waits, row.start);
+    let waits = printing::field(STDOUT_FILENO, to, waits, row.length);
+    let waits = printing::field(STDOUT_FILENO, to, waits, row.tick);
     let waits = output::put_part(STDOUT_FILENO, to, waits, text, start as usize, end as usize);
     output::put_byte(STDOUT_FILENO, to, waits, b'\n')
 }
@@ -96,5 +71,5 @@ pub fn sheet(to: &mut [u8; ROOM], text: &[u8], words: &[u64], starts: Starts) ->
     let waits = output::put_bytes(STDOUT_FILENO, to, Waits::none(), header);
     let waits = clips(to, waits, text, words, starts);
     let waits = output::put_bytes(STDOUT_FILENO, to, waits, b"total\t");
-    number_line(to, waits, starts.total)
+    printing::number_line(STDOUT_FILENO, to, waits, starts.total)
 }

@@ -8,7 +8,7 @@ use native.Mathlib.Omega.{arith}
 use lib.ListN.{getD}
 use Rattle.tables.specs.declared.Refusal as refusalᵈ
 use Rattle.tables.specs.declared.Refusal.the-variants as refusalᵛ
-use Rattle.tables.specs.Refusal.{Refusal, textTooLong, notUtf8, noHeader, isMaster, leftOutTag, tooManyDigits, clipTableShort, tagTableShort, brokenTable, outputShort, totalTooLong, badRate, turnTooLate, noSuchClip, windowTooFar, noRangeBefore, nothingPlays, tickTooLate, numberOf, Answer, refused, given, orRefuse}
+use Rattle.tables.specs.Refusal.{Refusal, textTooLong, notUtf8, noHeader, isMaster, leftOutTag, tooManyDigits, clipTableShort, tagTableShort, brokenTable, outputShort, totalTooLong, badRate, turnTooLate, noSuchClip, windowTooFar, noRangeBefore, nothingPlays, tickTooLate, fileTooShort, otherVersion, notExact, badStart, tooWide, numberOf, Answer, refused, given, orRefuse}
 use Rattle.tables.specs.Answers.{refusalOf}
 
 -- where one is refused, so is the other, by the same row and at the same place
@@ -84,6 +84,11 @@ named windowTooFar = refusalᵛ.WindowTooFar
 named noRangeBefore = refusalᵛ.NoRangeBefore
 named nothingPlays = refusalᵛ.NothingPlays
 named tickTooLate = refusalᵛ.TickTooLate
+named fileTooShort = refusalᵛ.FileTooShort
+named otherVersion = refusalᵛ.OtherVersion
+named notExact = refusalᵛ.NotExact
+named badStart = refusalᵛ.BadStart
+named tooWide = refusalᵛ.TooWide
 
 pub named-back : (r : refusalᵈ.Refusal) → named (refusalOf r) ≡ r
 named-back refusalᵛ.TextTooLong = refl
@@ -104,13 +109,18 @@ named-back refusalᵛ.WindowTooFar = refl
 named-back refusalᵛ.NoRangeBefore = refl
 named-back refusalᵛ.NothingPlays = refl
 named-back refusalᵛ.TickTooLate = refl
+named-back refusalᵛ.FileTooShort = refl
+named-back refusalᵛ.OtherVersion = refl
+named-back refusalᵛ.NotExact = refl
+named-back refusalᵛ.BadStart = refl
+named-back refusalᵛ.TooWide = refl
 
--- ---- a refusal and its number: 01's rows in order, then 02's
+-- ---- a refusal and its number: 01's rows in order, then 02's without a gap; behind the gap stands 33
 abbrev rows : List Refusal
-rows = textTooLong ∷ notUtf8 ∷ noHeader ∷ isMaster ∷ leftOutTag ∷ tooManyDigits ∷ clipTableShort ∷ tagTableShort ∷ brokenTable ∷ outputShort ∷ totalTooLong ∷ badRate ∷ turnTooLate ∷ noSuchClip ∷ windowTooFar ∷ noRangeBefore ∷ nothingPlays ∷ tickTooLate ∷ []
+rows = textTooLong ∷ notUtf8 ∷ noHeader ∷ isMaster ∷ leftOutTag ∷ tooManyDigits ∷ clipTableShort ∷ tagTableShort ∷ brokenTable ∷ outputShort ∷ totalTooLong ∷ badRate ∷ turnTooLate ∷ noSuchClip ∷ windowTooFar ∷ noRangeBefore ∷ nothingPlays ∷ tickTooLate ∷ fileTooShort ∷ otherVersion ∷ notExact ∷ badStart ∷ []
 
 abbrev pub byNumber : ℕ → Refusal
-byNumber n = getD rows (n - 1) windowTooFar
+byNumber n = getD rows (n - 1) tooWide
 
 pub by-number : (r : Refusal) → byNumber (numberOf r) ≡ r
 by-number textTooLong = refl
@@ -131,6 +141,11 @@ by-number windowTooFar = refl
 by-number noRangeBefore = refl
 by-number nothingPlays = refl
 by-number tickTooLate = refl
+by-number fileTooShort = refl
+by-number otherVersion = refl
+by-number notExact = refl
+by-number badStart = refl
+by-number tooWide = refl
 
 -- and none has the number of an accepted answer
 pub number-above : (r : Refusal) → 0 < numberOf r
@@ -152,3 +167,8 @@ number-above windowTooFar = omega arith
 number-above noRangeBefore = omega arith
 number-above nothingPlays = omega arith
 number-above tickTooLate = omega arith
+number-above fileTooShort = omega arith
+number-above otherVersion = omega arith
+number-above notExact = omega arith
+number-above badStart = omega arith
+number-above tooWide = omega arith

@@ -6,7 +6,7 @@ use Rattle.tables.specs.declared.Refusal as refusalᵈ
 use Rattle.tables.specs.declared.Refusal.the-variants as refusalᵛ
 use Rattle.tables.specs.declared.Laid as laidᵈ
 use Rattle.tables.specs.declared.Laid.the-variants as laidᵛ
-use Rattle.tables.specs.Refusal.{Refusal, textTooLong, notUtf8, noHeader, isMaster, leftOutTag, tooManyDigits, clipTableShort, tagTableShort, brokenTable, outputShort, totalTooLong, badRate, turnTooLate, noSuchClip, windowTooFar, noRangeBefore, nothingPlays, tickTooLate, Answer, refused, given, laid}
+use Rattle.tables.specs.Refusal.{Refusal, textTooLong, notUtf8, noHeader, isMaster, leftOutTag, tooManyDigits, clipTableShort, tagTableShort, brokenTable, outputShort, totalTooLong, badRate, turnTooLate, noSuchClip, windowTooFar, noRangeBefore, nothingPlays, tickTooLate, fileTooShort, otherVersion, notExact, badStart, tooWide, Answer, refused, given, laid}
 
 abbrev pub refusalOf : refusalᵈ.Refusal → Refusal
 refusalOf refusalᵛ.TextTooLong = textTooLong
@@ -27,6 +27,11 @@ refusalOf refusalᵛ.WindowTooFar = windowTooFar
 refusalOf refusalᵛ.NoRangeBefore = noRangeBefore
 refusalOf refusalᵛ.NothingPlays = nothingPlays
 refusalOf refusalᵛ.TickTooLate = tickTooLate
+refusalOf refusalᵛ.FileTooShort = fileTooShort
+refusalOf refusalᵛ.OtherVersion = otherVersion
+refusalOf refusalᵛ.NotExact = notExact
+refusalOf refusalᵛ.BadStart = badStart
+refusalOf refusalᵛ.TooWide = tooWide
 
 abbrev pub laidOf : laidᵈ.Laid → Answer ℕ
 laidOf (laidᵛ.Refused r) = refused (refusalOf r) 0

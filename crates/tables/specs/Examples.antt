@@ -5,7 +5,7 @@ use mathlib.Core.List.{List, [], _∷_, map}
 use Prim.Native.Nat.{ℕ, _-_, _^_}
 use lib.ListN.{replicate}
 use Rattle.tables.specs.Layout as layout
-use Rattle.tables.specs.Refusal.{textTooLong, notUtf8, noHeader, isMaster, leftOutTag, tooManyDigits, clipTableShort, tagTableShort, brokenTable, outputShort, totalTooLong, badRate, turnTooLate, noSuchClip, windowTooFar, noRangeBefore, nothingPlays, tickTooLate, numberOf, given, answerNumber, orRefuse}
+use Rattle.tables.specs.Refusal.{textTooLong, notUtf8, noHeader, isMaster, leftOutTag, tooManyDigits, clipTableShort, tagTableShort, brokenTable, outputShort, totalTooLong, badRate, turnTooLate, noSuchClip, windowTooFar, noRangeBefore, nothingPlays, tickTooLate, fileTooShort, otherVersion, notExact, badStart, tooWide, numberOf, given, answerNumber, orRefuse}
 use Rattle.tables.specs.Table.{clipsFit, tagsFit, fits, tagWord, stored, tagStored, hasFlag}
 
 -- one record's words hold one record, none hold none, and a count of 2^64 - 1 is no more than any other
@@ -82,7 +82,7 @@ start-places = refl
 window-places : layout.windowNumber ∷ layout.windowPresent ∷ layout.windowStart ∷ layout.windowEnd ∷ layout.windowWords ∷ [] ≡ 0 ∷ 1 ∷ 2 ∷ 3 ∷ 4 ∷ []
 window-places = refl
 
--- 01, "Numbers given back", row by row, then 02's: 16 of [1], 17 and 18 of [2]
+-- 01, "Numbers given back", row by row, then 02's: 16 of [1], 17 and 18 of [2], 19 to 22 and 33 of [3]
 refusals :
     map numberOf
     (textTooLong
@@ -103,8 +103,13 @@ refusals :
     ∷ noRangeBefore
     ∷ nothingPlays
     ∷ tickTooLate
+    ∷ fileTooShort
+    ∷ otherVersion
+    ∷ notExact
+    ∷ badStart
+    ∷ tooWide
     ∷ [])
-    ≡ 1 ∷ 2 ∷ 3 ∷ 4 ∷ 5 ∷ 6 ∷ 7 ∷ 8 ∷ 9 ∷ 10 ∷ 11 ∷ 12 ∷ 13 ∷ 14 ∷ 15 ∷ 16 ∷ 17 ∷ 18 ∷ []
+    ≡ 1 ∷ 2 ∷ 3 ∷ 4 ∷ 5 ∷ 6 ∷ 7 ∷ 8 ∷ 9 ∷ 10 ∷ 11 ∷ 12 ∷ 13 ∷ 14 ∷ 15 ∷ 16 ∷ 17 ∷ 18 ∷ 19 ∷ 20 ∷ 21 ∷ 22 ∷ 33 ∷ []
 refusals = refl
 
 -- the number of a refusal and of an accepted answer

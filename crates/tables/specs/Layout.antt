@@ -133,6 +133,10 @@ hasMapOffset = 32
 abbrev pub flagLimit : ℕ
 flagLimit = 64
 
+-- ---- the library's own limit of a text, in bytes: "text above 65,536 bytes" is refused
+abbrev pub textLimit : ℕ
+textLimit = 65536
+
 -- ---- word 2 below 10^18
 abbrev pub lengthLimit : ℕ
 lengthLimit = 10 ^ 18

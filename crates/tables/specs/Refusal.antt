@@ -42,6 +42,16 @@ pub data Refusal : Type 0 where
   nothingPlays : Refusal
   -- 02, [2]: t at or past the start tick of turn 1,000,000
   tickTooLate : Refusal
+  -- 02, [3]: shorter than the trailer
+  fileTooShort : Refusal
+  -- 02, [3]: version not 1
+  otherVersion : Refusal
+  -- 02, [3]: a place, count or length that does not fit exactly
+  notExact : Refusal
+  -- 02, [3]: a first start not 0, a start that falls or is above 1,000,000 s, or nanoseconds of 10^9 or more
+  badStart : Refusal
+  -- 02, [3]: a count, URI length or place too wide for its field
+  tooWide : Refusal
 
 -- the number of its row
 abbrev pub numberOf : Refusal → ℕ
@@ -63,6 +73,11 @@ numberOf windowTooFar = 15
 numberOf noRangeBefore = 16
 numberOf nothingPlays = 17
 numberOf tickTooLate = 18
+numberOf fileTooShort = 19
+numberOf otherVersion = 20
+numberOf notExact = 21
+numberOf badStart = 22
+numberOf tooWide = 33
 
 -- what a public call gives back: a refusal with its place, or values
 pub data Answer (A : Type 0) : Type 0 where

@@ -81,6 +81,9 @@ pub const HAS_MAP_OFFSET: u64 = 32;
 
 pub const FLAG_LIMIT: u64 = 64;
 
+// The library's own limit of a text, in bytes; a program may have a smaller one.
+pub const TEXT_LIMIT: usize = 65_536;
+
 // A length in ns is below this: nine digits before the point and nine after it.
 pub const LENGTH_LIMIT: u64 = 1_000_000_000_000_000_000;
 

@@ -27,6 +27,11 @@ pub enum Refusal {
     NoRangeBefore,
     NothingPlays,
     TickTooLate,
+    FileTooShort,
+    OtherVersion,
+    NotExact,
+    BadStart,
+    TooWide,
 }
 
 // How many records were laid into a lent table, or why none was.
@@ -59,6 +64,11 @@ impl Refusal {
             Refusal::NoRangeBefore => 16,
             Refusal::NothingPlays => 17,
             Refusal::TickTooLate => 18,
+            Refusal::FileTooShort => 19,
+            Refusal::OtherVersion => 20,
+            Refusal::NotExact => 21,
+            Refusal::BadStart => 22,
+            Refusal::TooWide => 33,
         }
     }
 }

@@ -6,12 +6,9 @@ use lib.Dec.{leb, eqb}
 use lib.ListN.{length}
 use Rattle.text.specs.Nom.{bytes, tagged}
 use Rattle.text.specs.Utf8.{utf8End}
+use Rattle.tables.specs.Layout.{textLimit}
 use Rattle.tables.specs.Refusal.{Answer, refused, given, orRefuse, textTooLong, notUtf8, noHeader}
 use Rattle.verdict.specs.Verdict.{Verdict, master, media, verdictFrom}
-
--- the library's own limit of a text, in bytes
-abbrev pub textLimit : ℕ
-textLimit = 65536
 
 abbrev pub header : List ℕ
 header = bytes "#EXTM3U"

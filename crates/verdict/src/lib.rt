@@ -1,14 +1,12 @@
 // The verdict (parser.rs, `contains_master_tag`): master playlist or media playlist, by the first tag that tells.
 // Also what every call on a text asks first: its size, its UTF-8, its first seven bytes.
 use tables::Refusal;
+use tables::layout;
 ghost use mathlib.Core.Path.{_≡_};
 ghost use Rattle.verdict.specs.Calls as rule;
 ghost use Rattle.verdict.specs.Answers.{admission, masterAnswer, verdictSeen};
 
 pub mod lines; // line by line, until one tells
-
-// The library's own limit of a text; a program may have a smaller one.
-pub const TEXT_LIMIT: usize = 65_536;
 
 pub enum Admission {
     Refused(Refusal, usize),
@@ -19,7 +17,7 @@ pub enum Admission {
 pub fn admit(text: &[u8]) -> Admission
     ensures { λ r. ⌜ admission r ≡ rule.admitted (now (text .entry)) ⌝ }
 {
-    if TEXT_LIMIT < text.len() {
+    if layout::TEXT_LIMIT < text.len() {
         return Admission::Refused(Refusal::TextTooLong, 0);
     }
     let end = utf8::utf8_end(text);

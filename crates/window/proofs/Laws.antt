@@ -14,7 +14,7 @@ use Rattle.tables.specs.Table.{every, clipsFit, hasFlag}
 use Rattle.tables.specs.Refusal.{Answer, refused, given, textTooLong, brokenTable, noSuchClip, noRangeBefore}
 use Rattle.tables.proofs.Every.{every-at}
 use Rattle.tables.proofs.Refusals.{Front, front-or, front-then, front-as}
-use Rattle.verdict.specs.Calls.{textLimit}
+use Rattle.tables.specs.Layout.{textLimit}
 use Rattle.window.specs.Window.{Window, none, isSubRange, nOf, hasO, oOf, uriOf, rangeFrom, sameResource, clipKeeps, keepsRule, overClips, windowOf, window}
 use Rattle.window.specs.After.{behind, follows, windowAfter}
 

@@ -12,7 +12,7 @@ use Rattle.text.specs.Spans.{spanIn, shown, sameBytes}
 use Rattle.tables.specs.Layout as layout
 use Rattle.tables.specs.Table.{every, clipsFit, clipWord, hasFlag}
 use Rattle.tables.specs.Refusal.{Answer, refused, given, orRefuse, textTooLong, brokenTable, noSuchClip, windowTooFar, noRangeBefore}
-use Rattle.verdict.specs.Calls.{textLimit}
+use Rattle.tables.specs.Layout.{textLimit}
 
 -- without a range, the answer none
 pub data Window : Type 0 where

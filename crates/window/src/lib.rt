@@ -57,7 +57,7 @@ fn keeps_rule(text: &[u8], words: &[u64], clips: usize) -> bool
 pub fn over_clips(text: &[u8], words: &[u64], clips: usize) -> Front
     ensures { λ r. ⌜ frontOf r ≡ rule.overClips (now (text .entry)) (now (words .entry)) clips (given tt) ⌝ }
 {
-    if verdict::TEXT_LIMIT < text.len() {
+    if layout::TEXT_LIMIT < text.len() {
         return Front::Refused(Refusal::TextTooLong);
     }
     if !keeps_rule(text, words, clips) {

@@ -9,7 +9,7 @@ use lib.ListN.{length}
 use borrow.Author.Tests.{leb-true}
 use Rattle.tables.specs.Refusal.{Refusal, Answer, refused, given, orRefuse, textTooLong, brokenTable, outputShort}
 use Rattle.tables.proofs.Sets.{sets-over}
-use Rattle.verdict.specs.Calls.{textLimit}
+use Rattle.tables.specs.Layout.{textLimit}
 use Rattle.assembly.specs.Assembly.{Head}
 use Rattle.rule9.specs.Rule9.{keepsRule}
 use Rattle.put.specs.Put.{Puts}

@@ -31,6 +31,17 @@ pub struct Written {
     pub length: u64,
 }
 
+#[repr(C)]
+#[derive(Clone, Copy, Debug, PartialEq)]
+pub struct Cue {
+    pub number: u64,
+    pub place: u64,
+    pub start: u64,
+    pub uri_start: u64,
+    pub uri_end: u64,
+    pub clips: u64,
+}
+
 extern "C" {
     fn ledgerfern_verdict(text: *const u8, length: usize) -> Verdict;
     fn ledgerfern_read(text: *const u8, length: usize, clips: *mut u64, clip_words: usize, tags: *mut u64, tag_words: usize) -> Read;
@@ -39,10 +50,26 @@ extern "C" {
         text: *const u8, length: usize, head: Head, clip_count: usize, clips: *const u64, clip_words: usize,
         tag_count: usize, tags: *const u64, tag_words: usize, output: *mut u8, room: usize,
     ) -> Written;
+    fn ledgerfern_cue_write(
+        text: *const u8, length: usize, clip_count: usize, clips: *const u64, clip_words: usize, output: *mut u8, room: usize,
+    ) -> Written;
+    fn ledgerfern_cue_read(file: *const u8, size: usize, clip: usize) -> Cue;
 }
 
 pub fn verdict(text: &[u8]) -> Verdict {
     unsafe { ledgerfern_verdict(text.as_ptr(), text.len()) }
+}
+
+pub fn cue_write(text: &[u8], clip_count: usize, clips: &[u64], output: &mut [u8]) -> Written {
+    unsafe {
+        ledgerfern_cue_write(
+            text.as_ptr(), text.len(), clip_count, clips.as_ptr(), clips.len(), output.as_mut_ptr(), output.len(),
+        )
+    }
+}
+
+pub fn cue_read(file: &[u8], clip: usize) -> Cue {
+    unsafe { ledgerfern_cue_read(file.as_ptr(), file.len(), clip) }
 }
 
 pub struct Tables {

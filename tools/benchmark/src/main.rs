@@ -1,4 +1,5 @@
-//! The library and the crate m3u8-rs on the same texts, in one run: how many times as fast the library is.
+//! The library and the crate m3u8-rs on the same texts, in one run: how many times as fast the library is. Of the cue file,
+//! which the crate does not know, beside plain C that checks nothing.
 //!
 //! Each measure alternates between the two sides in short rounds and keeps the best round of each, so that what else
 //! the machine does weighs on both. A side's work is what a user calls: the crate's lists are made and dropped, the
@@ -10,11 +11,13 @@ use m3u8_rs::{is_master_playlist, parse_media_playlist};
 use std::time::{Duration, Instant};
 use std::{mem, ptr};
 
+mod cues;
 #[allow(dead_code)]
 mod layout; // bindings/rust/src/layout.rs, which tools/bench puts here
 mod ledgerfern;
 mod texts;
 
+use cues::List;
 use ledgerfern::Tables;
 
 const FEWEST_ROUNDS: usize = 9;
@@ -55,7 +58,7 @@ impl<'a> Side<'a> {
     }
 }
 
-fn compare(what: &str, name: &str, ours: impl FnMut(), theirs: impl FnMut()) {
+fn compare(what: &str, name: &str, beside: &str, ours: impl FnMut(), theirs: impl FnMut()) {
     let mut ours = Side::new(ours);
     let mut theirs = Side::new(theirs);
     let start = Instant::now();
@@ -65,7 +68,7 @@ fn compare(what: &str, name: &str, ours: impl FnMut(), theirs: impl FnMut()) {
         theirs.round();
         rounds += 1;
     }
-    println!("{what} {name} {:.1}x  ({:.1} us, the crate {:.1} us)", theirs.best / ours.best, ours.best * 1e6, theirs.best * 1e6);
+    println!("{what} {name} {:.1}x  ({:.1} us, {beside} {:.1} us)", theirs.best / ours.best, ours.best * 1e6, theirs.best * 1e6);
 }
 
 fn measure(name: &str, text: &[u8]) {
@@ -76,6 +79,7 @@ fn measure(name: &str, text: &[u8]) {
     compare(
         "read",
         name,
+        "the crate",
         || {
             black_box(tables.read(black_box(text)));
         },
@@ -86,6 +90,7 @@ fn measure(name: &str, text: &[u8]) {
     compare(
         "verdict",
         name,
+        "the crate",
         || {
             black_box(ledgerfern::verdict(black_box(text)));
         },
@@ -101,6 +106,7 @@ fn measure(name: &str, text: &[u8]) {
     compare(
         "write",
         name,
+        "the crate",
         || {
             black_box(tables.write(black_box(text), &read, &mut output));
         },
@@ -111,10 +117,51 @@ fn measure(name: &str, text: &[u8]) {
     );
 }
 
+/// The largest cue file: written as a whole, and of its clips the last one found, which is the farthest to go. The library
+/// judges all that it is lent before it answers, and plain C judges nothing.
+fn measure_cues(name: &str) {
+    let list = List::largest();
+    let (mut file, mut plain) = (vec![0; cues::FILE], vec![0; cues::FILE]);
+    list.write(&mut file);
+    list.write_plainly(&mut plain);
+    assert!(file == plain && cues::last(&file) == cues::last_plainly(&file));
+    assert_eq!(cues::last(&file).clips, cues::CLIPS as u64);
+    compare(
+        "write",
+        name,
+        "plain C",
+        || {
+            black_box(list.write(black_box(&mut file)));
+        },
+        || {
+            black_box(list.write_plainly(black_box(&mut plain)));
+        },
+    );
+    compare(
+        "read",
+        name,
+        "plain C",
+        || {
+            black_box(cues::last(black_box(&file)));
+        },
+        || {
+            black_box(cues::last_plainly(black_box(&file)));
+        },
+    );
+}
+
+/// Measures what the words name, or all.
 #[no_mangle]
 pub extern "C" fn main(_count: i32, _words: *const *const u8) -> i32 {
+    let names: Vec<String> = std::env::args().skip(1).collect();
+    let wanted = |name: &str| names.is_empty() || names.iter().any(|word| word == name);
     for (name, text) in texts::all() {
-        measure(name, &text);
+        if wanted(name) {
+            measure(name, &text);
+        }
+    }
+    if wanted("cues") {
+        measure_cues("cues");
     }
     0
 }

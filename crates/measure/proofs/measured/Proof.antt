@@ -9,7 +9,7 @@ use Rattle.assembly.specs.Answers.{headSeen}
 use Rattle.rule9.specs.Rule9.{keepsRule}
 use Rattle.measure.specs.Inside.Room.{roomOf}
 use Rattle.measure.proofs.Rule.{rule-below}
-use Rattle.verdict.specs.Calls.{textLimit}
+use Rattle.tables.specs.Layout.{textLimit}
 use Rattle.measure.proofs.Rooms.{fits-room}
 use Rattle.measure.proofs.Answered.{too-long, breaks-rule, too-short, has-room}
 use Rattle.measure.proofs.measured.Statement.{statement}

@@ -7,7 +7,8 @@ use Rattle.tables.specs.Refusal.{Answer}
 use Rattle.starts.specs.Answers.{openedOf}
 use Rattle.starts.specs.Starts.{Cursor}
 use Rattle.output.proofs.Laws.{first-as}
-use Rattle.sheet.specs.Sheet.{refusedLine, printed}
+use Rattle.printing.specs.Lines.{refusedLine}
+use Rattle.printing.specs.Said.{printed}
 use Rattle.sheet.specs.Inside.Pass.{openedSheet, wordsSheet}
 use Rattle.sheet.proofs.print_clips.Statement.{statement}
 use Rattle.sheet.proofs.print_clips.Tie as tie

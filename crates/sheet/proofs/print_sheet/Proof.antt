@@ -6,7 +6,8 @@ use borrow.Author.Needs.{needs}
 use denote.Ref.{now}
 use Rattle.media.specs.Answers.{parseAnswer}
 use Rattle.output.proofs.Laws.{first-as}
-use Rattle.sheet.specs.Sheet.{clipRoom, tagRoom, refusedLine}
+use Rattle.printing.specs.Lines.{refusedLine}
+use Rattle.sheet.specs.Sheet.{clipRoom, tagRoom}
 use Rattle.sheet.proofs.Exits.{too-long, not-read, was-read}
 use Rattle.sheet.proofs.print_sheet.Statement.{statement}
 use Rattle.sheet.proofs.print_sheet.Tie as tie

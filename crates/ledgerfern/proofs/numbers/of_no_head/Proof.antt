@@ -3,7 +3,7 @@ use borrow.Author.Needs.{needs}
 use borrow.Author.Tests.{le-leb, lt-leb}
 use denote.Ref.{now}
 use lib.ListN.{length}
-use Rattle.verdict.specs.Calls.{textLimit}
+use Rattle.tables.specs.Layout.{textLimit}
 use Rattle.ledgerfern.proofs.numbers.of_no_head.Statement.{statement}
 use Rattle.ledgerfern.proofs.numbers.of_no_head.Tie as tie
 

@@ -6,7 +6,7 @@ use mathlib.Core.Path.{ap}
 use Rattle.text.specs.Nom.{bytes}
 use Rattle.text.specs.Answers.{spanOf}
 use Rattle.attributes.specs.Answers.{optRangeOf}
-use Rattle.verdict.specs.Calls.{textLimit}
+use Rattle.tables.specs.Layout.{textLimit}
 use Rattle.playlist.specs.Lines.{mapRangeBytes}
 use Rattle.measure.specs.Inside.Below.{SpanBelow}
 use Rattle.measure.proofs.Sizes.{map-range-long}

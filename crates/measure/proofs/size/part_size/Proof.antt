@@ -2,7 +2,7 @@
 use borrow.Author.Needs.{needs}
 use native.Mathlib.Omega.{arith}
 use Rattle.text.specs.Answers.{spanOf}
-use Rattle.verdict.specs.Calls.{textLimit}
+use Rattle.tables.specs.Layout.{textLimit}
 use Rattle.measure.specs.Inside.Below.{SpanBelow}
 use Rattle.measure.proofs.size.part_size.Statement.{statement}
 use Rattle.measure.proofs.size.part_size.Tie as tie

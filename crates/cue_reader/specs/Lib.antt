@@ -1,0 +1,2 @@
+-- what the code's answers say in the words of the rules
+pub mod Answers

@@ -1,0 +1,2 @@
+-- what inner contracts cite, and no rule
+pub mod Inside

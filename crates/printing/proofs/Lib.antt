@@ -1,0 +1,2 @@
+-- what is said at the exits of a program
+pub mod Exits

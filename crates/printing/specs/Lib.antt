@@ -1,0 +1,5 @@
+-- the bytes of each line
+pub mod Lines
+-- what a program says at its end
+pub mod Said
+pub mod Examples
