@@ -62,7 +62,10 @@ enum ledgerfern_refusal {
 #define LEDGERFERN_RATE_LIMIT 90000                           /* the largest rate, in ticks a second; the least is 1 */
 #define LEDGERFERN_TURN_LIMIT 999999                          /* the last turn; the first is 0 */
 
-/* Tables of so many records hold what any text within the limit has: `never-short`, crates/media/proofs/Most.antt. */
+/*
+ * Tables of so many records hold what any text within the limit has: `never-short`, crates/media/proofs/Most.antt. How
+ * many a text needs itself ledgerfern_room says.
+ */
 #define LEDGERFERN_MOST_CLIPS 32765
 #define LEDGERFERN_MOST_TAGS 9361
 
@@ -167,6 +170,13 @@ typedef struct {
 typedef struct {
     uint64_t number;
     uint64_t place;
+    uint64_t clips; /* records that the clip table needs, of LEDGERFERN_CLIP_WORDS words */
+    uint64_t tags;  /* records that the tag table needs, of LEDGERFERN_TAG_WORDS words */
+} ledgerfern_room_answer;
+
+typedef struct {
+    uint64_t number;
+    uint64_t place;
     uint64_t length; /* bytes written */
 } ledgerfern_written_answer;
 
@@ -233,6 +243,16 @@ ledgerfern_verdict_answer ledgerfern_verdict(const uint8_t *text, size_t text_le
  */
 ledgerfern_read_answer ledgerfern_read(const uint8_t *text, size_t text_length, uint64_t *clips, size_t clip_words,
                                        uint64_t *tags, size_t tag_words);
+
+/*
+ * How many records ledgerfern_read needs the two tables to have room for: its clips, and their unknown tags. With tables of
+ * so many records, or longer ones, it reads this text and gives just these counts; with a word less in the clip table it
+ * refuses by 7, and where that is enough, with a word less in the tag table by 8 (crates/ledgerfern/proofs/Rooms.antt).
+ * No text needs more than LEDGERFERN_MOST_CLIPS and LEDGERFERN_MOST_TAGS. What is refused here the reader refuses too, by
+ * the same number and at the same place, whatever the tables. It takes about as long as a reading's first half. Refusals:
+ * 1, 2, 3, 4, then 5 or 6 whichever the reading meets first.
+ */
+ledgerfern_room_answer ledgerfern_room(const uint8_t *text, size_t text_length);
 
 /*
  * Writes a playlist: the head's lines, then `clip_count` clips with their `tag_count` unknown tags, into the output, whose

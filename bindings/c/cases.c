@@ -1,8 +1,8 @@
 /*
  * Cases by hand, as C meets them: the clock's calls on document 01's sheet, the window's on reels, the cue file's on
- * the sheet and on the largest lists. Tables are too short or longer than needed, begin at any word, and hold anything
- * in the words that a call does not read. Prints each number that is wrong, and how many are right; exit status 1 where
- * one is wrong.
+ * the sheet and on the largest lists, and the room that the reader needs. Tables are too short or longer than needed,
+ * begin at any word, and hold anything in the words that a call does not read. Prints each number that is wrong, and how
+ * many are right; exit status 1 where one is wrong.
  */
 #include <inttypes.h>
 #include <stdio.h>
@@ -843,6 +843,90 @@ static void cue_files(void)
     read_and_written();
 }
 
+/* ---- the room that the reader needs, and the reader with just that, a word less or more */
+
+enum { ROOM_SIZE = 4 * LEDGERFERN_CLIP_WORDS };
+
+static uint64_t room_clips[ROOM_SIZE], room_tags[ROOM_SIZE];
+
+#define LIST(list) (const uint8_t *)(list), sizeof(list) - 1
+
+/* Reads into two tables that are filled with 7s: words that are not lent, and those behind the last record, stay so. */
+static ledgerfern_read_answer read_into(const uint8_t *from, size_t length, size_t clip_words, size_t tag_words)
+{
+    for (size_t k = 0; k < ROOM_SIZE; k++)
+        room_clips[k] = room_tags[k] = 7;
+    ledgerfern_read_answer answer = ledgerfern_read(from, length, room_clips, clip_words, room_tags, tag_words);
+    for (size_t k = answer.clips * LEDGERFERN_CLIP_WORDS; k < ROOM_SIZE; k++)
+        SAME(room_clips[k], 7);
+    for (size_t k = answer.tags * LEDGERFERN_TAG_WORDS; k < ROOM_SIZE; k++)
+        SAME(room_tags[k], 7);
+    return answer;
+}
+
+static void one_room(ledgerfern_room_answer room, uint64_t number, uint64_t place, uint64_t clip_count,
+                     uint64_t tag_count)
+{
+    SAME(room.number, number);
+    SAME(room.place, place);
+    SAME(room.clips, clip_count);
+    SAME(room.tags, tag_count);
+}
+
+static void needs(uint64_t clip_count, uint64_t tag_count, const uint8_t *from, size_t length)
+{
+    size_t clip_words = clip_count * LEDGERFERN_CLIP_WORDS, tag_words = tag_count * LEDGERFERN_TAG_WORDS;
+
+    one_room(ledgerfern_room(from, length), LEDGERFERN_OK, 0, clip_count, tag_count);
+    for (size_t more = 0; more < 2; more++) {
+        ledgerfern_read_answer answer = read_into(from, length, clip_words + more, tag_words + more);
+        SAME(answer.number, LEDGERFERN_OK);
+        SAME(answer.clips, clip_count);
+        SAME(answer.tags, tag_count);
+    }
+    if (clip_words > 0)
+        for (size_t words = 0; words <= tag_words; words++)
+            SAME(read_into(from, length, clip_words - 1, words).number, LEDGERFERN_CLIP_TABLE_SHORT);
+    if (tag_words > 0)
+        SAME(read_into(from, length, clip_words, tag_words - 1).number, LEDGERFERN_TAG_TABLE_SHORT);
+}
+
+/* Neither call takes it, whatever the tables. */
+static void taken_by_none(uint64_t number, uint64_t place, const uint8_t *from, size_t length)
+{
+    one_room(ledgerfern_room(from, length), number, place, 0, 0);
+    for (size_t words = 0; words <= ROOM_SIZE; words += ROOM_SIZE) {
+        ledgerfern_read_answer answer = read_into(from, length, words, words);
+        SAME(answer.number, number);
+        SAME(answer.place, place);
+    }
+}
+
+static void rooms(void)
+{
+    needs(0, 0, LIST("#EXTM3U"));
+    needs(3, 0, LIST(sheet));
+    needs(2, 2, LIST("#EXTM3U\n#EXT-A\n#EXT-B:r\na\nb\n#EXT-C\n")); /* what follows the last URI is dropped */
+    needs(1, 1, LIST("#EXTM3U\n#EXT-A\na\n#EXT-B\nb\rc\nd\n"));      /* the reading stops at a lone CR */
+
+    /* Each in a text that the ones behind it refuse too. */
+    static uint8_t too_long[LEDGERFERN_TEXT_LIMIT + 1];
+    memset(too_long, 0xFF, sizeof too_long);
+    taken_by_none(LEDGERFERN_TEXT_TOO_LONG, 0, too_long, sizeof too_long);
+    taken_by_none(LEDGERFERN_NOT_UTF8, 0, too_long, sizeof too_long - 1);
+    taken_by_none(LEDGERFERN_NO_HEADER, 0, LIST("#EXTM3\n#EXT-X-STREAM-INF\na\n"));
+    taken_by_none(LEDGERFERN_IS_MASTER, 8, LIST("#EXTM3U\n#EXT-X-STREAM-INF\n#EXT-X-KEY:\na\n"));
+    taken_by_none(LEDGERFERN_LEFT_OUT_TAG, 10, LIST("#EXTM3U\na\n#EXT-X-KEY:\n#EXTINF:0000000009,\nb\n"));
+    taken_by_none(LEDGERFERN_TOO_MANY_DIGITS, 10, LIST("#EXTM3U\na\n#EXTINF:0000000009,\n#EXT-X-KEY:\nb\n"));
+
+    /* The text with the most clips is still there; then one with the most tags, and the one clip that they belong to. */
+    one_room(ledgerfern_room(long_text, LEDGERFERN_TEXT_LIMIT), LEDGERFERN_OK, 0, LEDGERFERN_MOST_CLIPS, 0);
+    for (size_t k = 0; k < LEDGERFERN_MOST_TAGS; k++)
+        memcpy(long_text + 7 + 7 * k, "#EXT-a\n", 7);
+    long_text[7 + 7 * LEDGERFERN_MOST_TAGS] = 'b';
+    one_room(ledgerfern_room(long_text, 8 + 7 * LEDGERFERN_MOST_TAGS), LEDGERFERN_OK, 0, 1, LEDGERFERN_MOST_TAGS);
+}
+
 int main(void)
 {
     for (size_t k = 0; k < sizeof table / sizeof *table; k++)
@@ -858,6 +942,7 @@ int main(void)
     long_uris();
     read_and_asked();
     cue_files();
+    rooms();
     printf("%d of %d numbers are right\n", numbers - wrong, numbers);
     return wrong > 0;
 }

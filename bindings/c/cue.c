@@ -32,7 +32,7 @@ int main(int words, char **word)
     size_t count = read_list();
 
     ledgerfern_written_answer written =
-        ledgerfern_cue_write(text, text_length, count, clips, CLIP_SIZE, file, sizeof file);
+        ledgerfern_cue_write(text, text_length, count, clips, clip_words, file, sizeof file);
     refuse(written.number, written.place);
     if (words > 2)
         leave(word[2], written.length);

@@ -18,10 +18,8 @@
 
 static uint8_t text[LEDGERFERN_TEXT_LIMIT + 1]; /* a byte more than is read, so that a longer text is refused by 1 */
 static size_t text_length;
-static uint64_t clips[LEDGERFERN_MOST_CLIPS * LEDGERFERN_CLIP_WORDS];
-static uint64_t tags[LEDGERFERN_MOST_TAGS * LEDGERFERN_TAG_WORDS];
-
-enum { CLIP_SIZE = sizeof clips / sizeof *clips, TAG_SIZE = sizeof tags / sizeof *tags };
+static uint64_t *clips, *tags; /* tables of just as many records as the text needs */
+static size_t clip_words, tag_words;
 
 static int failed(const char *what)
 {
@@ -66,6 +64,16 @@ static inline uint64_t number(const char *name, const char *word)
     return value;
 }
 
+/* A table of so many words. It is never NULL, which no call takes, even for a table of none. */
+static uint64_t *table(size_t words)
+{
+    uint64_t *lent = calloc(words + 1, sizeof *lent);
+
+    if (lent == NULL)
+        exit(failed(PROGRAM ": memory"));
+    return lent;
+}
+
 /* Reads standard input into `text`, and its clips into `clips`; how many clips there are. */
 static size_t read_list(void)
 {
@@ -73,7 +81,14 @@ static size_t read_list(void)
     if (ferror(stdin))
         exit(failed(PROGRAM ": standard input"));
 
-    ledgerfern_read_answer list = ledgerfern_read(text, text_length, clips, CLIP_SIZE, tags, TAG_SIZE);
+    ledgerfern_room_answer room = ledgerfern_room(text, text_length);
+    refuse(room.number, room.place);
+    clip_words = room.clips * LEDGERFERN_CLIP_WORDS;
+    tag_words = room.tags * LEDGERFERN_TAG_WORDS;
+    clips = table(clip_words);
+    tags = table(tag_words);
+
+    ledgerfern_read_answer list = ledgerfern_read(text, text_length, clips, clip_words, tags, tag_words);
     refuse(list.number, list.place);
     return list.clips;
 }

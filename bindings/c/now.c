@@ -18,7 +18,7 @@ int main(int words, char **word)
     uint64_t tick = words > 2 ? number("TICK", word[2]) : 0;
     size_t count = read_list();
 
-    ledgerfern_playing_answer now = ledgerfern_playing_at(count, clips, CLIP_SIZE, rate, tick);
+    ledgerfern_playing_answer now = ledgerfern_playing_at(count, clips, clip_words, rate, tick);
     refuse(now.number, now.place);
     printf("turn\t%" PRIu64 "\nclip\t%" PRIu64 "\nuri\t", now.turn, now.clip);
     print_uri(now.clip);

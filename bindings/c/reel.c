@@ -11,10 +11,6 @@
 #define USAGE "usage: reel < list.m3u8\n"
 #include "list.h"
 
-static uint64_t windows[LEDGERFERN_MOST_CLIPS * LEDGERFERN_WINDOW_WORDS];
-
-enum { WINDOW_SIZE = sizeof windows / sizeof *windows };
-
 /* The refusal of one clip in words: it is one of these two. */
 static const char *reason(uint64_t refusal)
 {
@@ -44,9 +40,11 @@ int main(int words, char **word)
     if (words > 1)
         usage();
     size_t count = read_list();
+    size_t window_words = count * LEDGERFERN_WINDOW_WORDS;
+    uint64_t *windows = table(window_words);
 
     ledgerfern_windows_answer all =
-        ledgerfern_windows(text, text_length, count, clips, CLIP_SIZE, windows, WINDOW_SIZE);
+        ledgerfern_windows(text, text_length, count, clips, clip_words, windows, window_words);
     refuse(all.number, all.place);
     for (size_t clip = 0; clip < count; clip++) {
         print_bytes(windows + clip * LEDGERFERN_WINDOW_WORDS);

@@ -1,5 +1,6 @@
 //! The calls of `libledgerfern.a` (include/ledgerfern.h), each behind a safe function: a slice is its pointer and its
-//! length, so the memory that a call may touch is there; what is written is lent as `&mut`, so nothing else sees it.
+//! length, so the memory that a call may touch is there; what is written is lent as `&mut`, so nothing else sees it. One
+//! promise of a call is relied on besides: a text that is read is UTF-8.
 
 #[repr(C)]
 #[derive(Clone, Copy)]
@@ -34,6 +35,15 @@ pub struct Read {
     pub tags: u64,
     pub stop: u64,
     pub head: Head,
+}
+
+#[repr(C)]
+#[derive(Clone, Copy)]
+pub struct Room {
+    pub number: u64,
+    pub place: u64,
+    pub clips: u64,
+    pub tags: u64,
 }
 
 #[repr(C)]
@@ -111,7 +121,7 @@ pub struct Written {
 
 mod calls {
     use super::{Cue, Head, Written};
-    use super::{On, Playing, Read, Starts, Value, Verdict, Window, Windows};
+    use super::{On, Playing, Read, Room, Starts, Value, Verdict, Window, Windows};
 
     extern "C" {
         pub fn ledgerfern_verdict(text: *const u8, text_length: usize) -> Verdict;
@@ -123,6 +133,7 @@ mod calls {
             tags: *mut u64,
             tag_words: usize,
         ) -> Read;
+        pub fn ledgerfern_room(text: *const u8, text_length: usize) -> Room;
         pub fn ledgerfern_total(clip_count: usize, clips: *const u64, clip_words: usize) -> Value;
         pub fn ledgerfern_start_ns(clip_count: usize, clips: *const u64, clip_words: usize, clip: usize) -> Value;
         pub fn ledgerfern_start_tick(
@@ -205,8 +216,9 @@ pub fn verdict(text: &[u8]) -> Verdict {
     unsafe { calls::ledgerfern_verdict(text.as_ptr(), text.len()) }
 }
 
-pub fn read(text: &[u8], clips: &mut [u64], tags: &mut [u64]) -> Read {
-    unsafe {
+/// Reads a text, and gives it as a `str` where it was read.
+pub fn read<'t>(text: &'t [u8], clips: &mut [u64], tags: &mut [u64]) -> (Read, &'t str) {
+    let answer = unsafe {
         calls::ledgerfern_read(
             text.as_ptr(),
             text.len(),
@@ -215,7 +227,17 @@ pub fn read(text: &[u8], clips: &mut [u64], tags: &mut [u64]) -> Read {
             tags.as_mut_ptr(),
             tags.len(),
         )
+    };
+    if answer.number != 0 {
+        return (answer, "");
     }
+    // It is proved of the call that a text which is not UTF-8 is refused (2). To ask once more would take as long again.
+    (answer, unsafe { std::str::from_utf8_unchecked(text) })
+}
+
+/// How many clips and kept unknown tags a text has.
+pub fn room(text: &[u8]) -> Room {
+    unsafe { calls::ledgerfern_room(text.as_ptr(), text.len()) }
 }
 
 pub fn total(clip_count: usize, clips: &[u64]) -> Value {

@@ -44,3 +44,8 @@ pub const HAS_MAP_OFFSET: u64 = 32;
 
 /// The longest text that is read.
 pub const TEXT_LIMIT: usize = 65_536;
+
+/// No text has more clips.
+pub const MOST_CLIPS: usize = 32_765;
+/// No text has more unknown tags that belong to a clip.
+pub const MOST_TAGS: usize = 9_361;

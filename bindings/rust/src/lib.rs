@@ -1,8 +1,9 @@
 //! HLS media playlists read and written by a proved library, with an exact clock, in the shapes of m3u8-rs 6.0.1.
 //!
 //! The work is done by `libledgerfern.a`, whose calls are proved to answer every input, to end, and to touch only what
-//! they are lent. This crate lends them tables, and makes the values that a user of m3u8-rs knows of what comes back. It
-//! has no dependency, does not panic on any input, and its unsafe code is the fourteen calls in `ffi`.
+//! they are lent. This crate lends them tables, and makes values of what comes back: those that a user of m3u8-rs knows, or
+//! values that borrow from the text. It has no dependency, does not panic on any input, and its unsafe code is in `ffi`: the
+//! fifteen calls, and the step from bytes that were read to a `str`.
 //!
 //! ```no_run
 //! let text = std::fs::read("list.m3u8").unwrap_or_default();
@@ -19,6 +20,21 @@
 //!     }
 //!     Err(refusal) => println!("{}", refusal),
 //! }
+//! ```
+//!
+//! # Without owned values
+//!
+//! A [`Reader`] keeps the tables from one text to the next, and the [`Clip`]s of a [`List`] that it read are made where they
+//! are taken, of parts of the text: nothing is allocated for them. This takes about half the time.
+//!
+//! ```
+//! let text = "#EXTM3U\n#EXTINF:9.009,bird\na.ts\n#EXTINF:0.004,\nb.ts\n";
+//! let mut reader = ledgerfern::Reader::new();
+//! let list = reader.read(text)?;
+//! let clips: Vec<_> = list.clips().map(|clip| (clip.uri, clip.title, clip.duration_ns)).collect();
+//! assert_eq!(clips, [("a.ts", Some("bird"), 9_009_000_000), ("b.ts", None, 4_000_000)]);
+//! assert_eq!(list.start_tick(100, 0, 1)?, 900);
+//! # Ok::<(), ledgerfern::Refusal>(())
 //! ```
 //!
 //! # What differs from m3u8-rs
@@ -53,9 +69,12 @@ mod parser;
 mod playlist;
 mod refusal;
 mod tables;
+mod view;
 
 pub use clock::{Clips, On, Playing, Start, Starts, Windows};
 pub use cue::{cues, read_cue, Cue, Cues};
+pub use layout::{MOST_CLIPS, MOST_TAGS};
 pub use parser::{is_master_playlist, is_master_playlist_res, parse_media_playlist, parse_media_playlist_res};
 pub use playlist::{ByteRange, ExtTag, Map, MediaPlaylist, MediaPlaylistType, MediaSegment};
 pub use refusal::Refusal;
+pub use view::{Clip, ExtTagRef, ExtTags, ExtTagsIter, List, ListClips, ListType, MapRef, Reader};

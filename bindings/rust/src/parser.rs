@@ -1,6 +1,11 @@
 //! The reading, in the shapes of m3u8-rs.
 use crate::refusal::{check, Refusal};
-use crate::{ffi, layout, tables, MediaPlaylist};
+use crate::{ffi, MediaPlaylist, Reader};
+use std::cell::Cell;
+
+/// The most words of tables that a thread keeps for its next call: a megabyte, more than lists as encoders write them need.
+/// Longer tables go with the call that needed them.
+const KEPT_WORDS: usize = 1 << 17;
 
 /// Whether the input is a master playlist; false where the library refuses it, as m3u8-rs has it.
 pub fn is_master_playlist(input: &[u8]) -> bool {
@@ -15,18 +20,14 @@ pub fn is_master_playlist_res(input: &[u8]) -> Result<bool, Refusal> {
 }
 
 /// Parses input as a media playlist. As with m3u8-rs the first of the pair is the rest of the input: what follows the
-/// place where the reading stopped, which is empty unless a line has a CR without LF.
+/// place where the reading stopped, which is empty unless a line has a CR without LF. Each thread keeps the tables that it
+/// reads with. [`Reader`] reads without owned values.
 /// Refusals: 1, 2, 3, 4, then 5 or 6 whichever the reading meets first.
 pub fn parse_media_playlist(input: &[u8]) -> Result<(&[u8], MediaPlaylist), Refusal> {
-    let (clip_room, tag_room) = rooms(input);
-    let mut clips = vec![0; clip_room.saturating_mul(layout::CLIP_WORDS)];
-    let mut tags = vec![0; tag_room.saturating_mul(layout::TAG_WORDS)];
-    let answer = ffi::read(input, &mut clips, &mut tags);
-    check(answer.number, answer.place)?;
-    let stop = answer.stop as usize;
-    clips.truncate((answer.clips as usize).saturating_mul(layout::CLIP_WORDS));
-    let playlist = tables::unpack(input, &answer.head, &clips, &tags);
-    Ok((input.get(stop..).unwrap_or_default(), playlist))
+    let mut reader = kept();
+    let read = reader.read(input).map(|list| (list.rest().as_bytes(), MediaPlaylist::from(list)));
+    keep(reader);
+    read
 }
 
 /// Parses input as a media playlist, and gives no rest.
@@ -34,13 +35,20 @@ pub fn parse_media_playlist_res(input: &[u8]) -> Result<MediaPlaylist, Refusal> 
     parse_media_playlist(input).map(|(_, playlist)| playlist)
 }
 
-/// The most clips and unknown tags that a text can have. Between two URIs there is an LF, and an unknown tag takes the CR
-/// or LF at its end; a URI has a byte besides, an unknown tag six. A text that is too long is refused before its tables
-/// are looked at.
-fn rooms(text: &[u8]) -> (usize, usize) {
-    if layout::TEXT_LIMIT < text.len() {
-        return (0, 0);
+thread_local! {
+    // The form with `const` is at odds with a lint that is forbidden here, by the macro of Rust 1.63.
+    #[allow(clippy::missing_const_for_thread_local)]
+    static KEPT: Cell<Reader> = Cell::new(Reader::new());
+}
+
+/// The thread's reader; a new one where the thread is about to end.
+fn kept() -> Reader {
+    KEPT.try_with(Cell::take).unwrap_or_default()
+}
+
+fn keep(reader: Reader) {
+    if reader.words() <= KEPT_WORDS {
+        // A thread that is about to end keeps nothing.
+        let _ = KEPT.try_with(|kept| kept.set(reader));
     }
-    let ends = text.iter().filter(|b| matches!(b, b'\r' | b'\n')).count();
-    (text.len().min(ends.saturating_add(1)), ends.min(text.len() / 7))
 }

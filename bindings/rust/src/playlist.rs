@@ -183,7 +183,7 @@ pub struct Map {
 }
 
 /// `#EXT-X-BYTERANGE:<n>[@<o>]`
-#[derive(Debug, Default, PartialEq, Eq, Clone)]
+#[derive(Debug, Default, PartialEq, Eq, Hash, Clone, Copy)]
 pub struct ByteRange {
     /// How many bytes.
     pub length: u64,
@@ -203,10 +203,6 @@ pub struct ExtTag {
 
 impl fmt::Display for ExtTag {
     fn fmt(&self, f: &mut fmt::Formatter<'_>) -> fmt::Result {
-        write!(f, "#EXT-{}", self.tag)?;
-        if let Some(v) = &self.rest {
-            write!(f, ":{}", v)?;
-        }
-        Ok(())
+        tables::show_tag(f, &self.tag, self.rest.as_deref())
     }
 }

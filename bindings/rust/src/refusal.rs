@@ -51,6 +51,10 @@ impl fmt::Display for Refusal {
 
 impl Error for Refusal {}
 
+/// The refusals that say that a reader's tables are too short.
+pub const CLIP_TABLE_SHORT: u64 = 7;
+pub const TAG_TABLE_SHORT: u64 = 8;
+
 /// The refusal that an answer's number and place say, if it is one.
 pub fn check(number: u64, place: u64) -> Result<(), Refusal> {
     if number == 0 {

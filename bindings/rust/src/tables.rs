@@ -1,91 +1,78 @@
 //! A playlist and its tables: the head's numbers, the clips' and the unknown tags' words, and the text of their spans.
-use crate::ffi::Head;
+use crate::ffi::{self, Head};
 use crate::layout::{self, CLIP_WORDS, TAG_WORDS};
-use crate::{ByteRange, ExtTag, Map, MediaPlaylist, MediaPlaylistType, MediaSegment};
+use crate::refusal::{check, Refusal};
+use crate::{ByteRange, Clip, ExtTag, ExtTagRef, List, ListType};
+use crate::{Map, MapRef, MediaPlaylist, MediaPlaylistType, MediaSegment};
+use std::fmt;
 
 // A version is a usize, as in m3u8-rs, and a place in a text too: the library is for 64-bit machines.
 const _: () = assert!(usize::BITS == 64);
 
-// ---- tables to values
+// ---- views to values
 
-/// The playlist that a head and two tables over a text say.
-pub fn unpack(text: &[u8], head: &Head, clips: &[u64], tags: &[u64]) -> MediaPlaylist {
-    MediaPlaylist {
-        version: (head.version_present != 0).then_some(head.version as usize),
-        target_duration: head.target_duration,
-        media_sequence: head.media_sequence,
-        segments: clips.chunks_exact(CLIP_WORDS).map(|c| segment(text, c, tags)).collect(),
-        discontinuity_sequence: head.discontinuity_sequence,
-        end_list: head.end_list != 0,
-        playlist_type: playlist_type(text, head),
-        i_frames_only: head.i_frames_only != 0,
-        independent_segments: head.independent_segments != 0,
+/// The list as a user of m3u8-rs knows it, with strings of its own.
+impl From<List<'_, '_>> for MediaPlaylist {
+    fn from(list: List<'_, '_>) -> MediaPlaylist {
+        MediaPlaylist {
+            version: list.version(),
+            target_duration: list.target_duration(),
+            media_sequence: list.media_sequence(),
+            segments: list.clips().map(MediaSegment::from).collect(),
+            discontinuity_sequence: list.discontinuity_sequence(),
+            end_list: list.end_list(),
+            playlist_type: list.playlist_type().map(MediaPlaylistType::from),
+            i_frames_only: list.i_frames_only(),
+            independent_segments: list.independent_segments(),
+        }
     }
 }
 
-fn playlist_type(text: &[u8], head: &Head) -> Option<MediaPlaylistType> {
-    match head.playlist_type {
-        0 => None,
-        1 => Some(MediaPlaylistType::Event),
-        2 => Some(MediaPlaylistType::Vod),
-        _ => Some(MediaPlaylistType::Other(shown(text, head.type_start, head.type_end))),
+impl From<ListType<'_>> for MediaPlaylistType {
+    fn from(list_type: ListType<'_>) -> MediaPlaylistType {
+        match list_type {
+            ListType::Event => MediaPlaylistType::Event,
+            ListType::Vod => MediaPlaylistType::Vod,
+            ListType::Other(other) => MediaPlaylistType::Other(other.into()),
+        }
     }
 }
 
-fn segment(text: &[u8], clip: &[u64], tags: &[u64]) -> MediaSegment {
-    let word = |place| word(clip, place);
-    let flags = word(layout::FLAGS);
-    let has = |flag| flags & flag != 0;
-    let range = |there, length, offset_there, offset| {
-        has(there).then(|| ByteRange { length: word(length), offset: has(offset_there).then(|| word(offset)) })
-    };
-    MediaSegment {
-        uri: shown(text, word(layout::URI_START), word(layout::URI_END)),
-        duration: f32::from_bits(word(layout::BITS) as u32),
-        duration_ns: word(layout::LENGTH),
-        title: part(text, word(layout::TITLE_START), word(layout::TITLE_END)),
-        byte_range: range(layout::HAS_RANGE, layout::RANGE_LENGTH, layout::HAS_RANGE_OFFSET, layout::RANGE_OFFSET),
-        discontinuity: has(layout::HAS_DISCONTINUITY),
-        map: has(layout::HAS_MAP).then(|| Map {
-            uri: shown(text, word(layout::MAP_URI_START), word(layout::MAP_URI_END)),
-            byte_range: range(
-                layout::HAS_MAP_RANGE,
-                layout::MAP_RANGE_LENGTH,
-                layout::HAS_MAP_OFFSET,
-                layout::MAP_RANGE_OFFSET,
-            ),
-            attributes: shown(text, word(layout::MAP_LIST_START), word(layout::MAP_LIST_END)),
-        }),
-        unknown_tags: tags
-            .chunks_exact(TAG_WORDS)
-            .skip(word(layout::FIRST_TAG) as usize)
-            .take(word(layout::TAG_COUNT) as usize)
-            .map(|tag| unknown_tag(text, tag))
-            .collect(),
+impl From<Clip<'_, '_>> for MediaSegment {
+    #[inline]
+    fn from(clip: Clip<'_, '_>) -> MediaSegment {
+        MediaSegment {
+            uri: clip.uri.into(),
+            duration: clip.duration,
+            duration_ns: clip.duration_ns,
+            title: clip.title.map(String::from),
+            byte_range: clip.byte_range,
+            discontinuity: clip.discontinuity,
+            map: clip.map.map(Map::from),
+            unknown_tags: clip.unknown_tags.iter().map(ExtTag::from).collect(),
+        }
     }
 }
 
-fn unknown_tag(text: &[u8], tag: &[u64]) -> ExtTag {
-    let word = |place| word(tag, place);
-    ExtTag {
-        tag: shown(text, word(layout::NAME_START), word(layout::NAME_END)),
-        rest: part(text, word(layout::REST_START), word(layout::REST_END)),
+impl From<MapRef<'_>> for Map {
+    fn from(map: MapRef<'_>) -> Map {
+        Map { uri: map.uri.into(), byte_range: map.byte_range, attributes: map.attributes.into() }
     }
 }
 
-fn word(record: &[u64], place: usize) -> u64 {
-    record.get(place).copied().unwrap_or(0)
+impl From<ExtTagRef<'_>> for ExtTag {
+    fn from(tag: ExtTagRef<'_>) -> ExtTag {
+        ExtTag { tag: tag.tag.into(), rest: tag.rest.map(String::from) }
+    }
 }
 
-/// The bytes of a span. The library gives spans within the text, and a text that is UTF-8, cut at ASCII bytes only.
-fn shown(text: &[u8], start: u64, end: u64) -> String {
-    let bytes = text.get(start as usize..end as usize).unwrap_or_default();
-    String::from_utf8_lossy(bytes).into_owned()
-}
-
-/// What is there unless both its words are 0.
-fn part(text: &[u8], start: u64, end: u64) -> Option<String> {
-    ((start, end) != (0, 0)).then(|| shown(text, start, end))
+/// A tag as its line has it.
+pub fn show_tag(f: &mut fmt::Formatter<'_>, tag: &str, rest: Option<&str>) -> fmt::Result {
+    write!(f, "#EXT-{}", tag)?;
+    if let Some(v) = rest {
+        write!(f, ":{}", v)?;
+    }
+    Ok(())
 }
 
 // ---- values to tables
@@ -181,17 +168,9 @@ impl Packed {
         }
     }
 
-    /// What the library writes of it. Besides the strings a clip takes at most 256 bytes and a tag 8: what is fixed in its
-    /// lines, and six numbers.
-    pub fn written(&self) -> Result<Vec<u8>, crate::Refusal> {
-        let (clips, tags) = (self.clips.len() / CLIP_WORDS, self.tags.len() / TAG_WORDS);
-        let room = self.text.len().saturating_add(512);
-        let room = room.saturating_add(clips.saturating_mul(256)).saturating_add(tags.saturating_mul(8));
-        let mut out = vec![0; room];
-        let answer = crate::ffi::write(&self.text, self.head, clips, &self.clips, tags, &self.tags, &mut out);
-        crate::refusal::check(answer.number, answer.place)?;
-        out.truncate(answer.length as usize);
-        Ok(out)
+    /// What the library writes of it.
+    pub fn written(&self) -> Result<Vec<u8>, Refusal> {
+        written(&self.text, self.head, &self.clips, &self.tags)
     }
 
     /// A map's flags, and its words: URI and range. The words of its list stay 0: it is not written, and laid down it
@@ -205,6 +184,19 @@ impl Packed {
         let (flags, [length, offset]) = range(&map.byte_range, layout::HAS_MAP_RANGE, layout::HAS_MAP_OFFSET);
         (layout::HAS_MAP | flags, [uri_start, uri_end, length, offset])
     }
+}
+
+/// What the library writes of a head and two tables over a text. Besides the strings a clip takes at most 256 bytes and a
+/// tag 8: what is fixed in its lines, and six numbers.
+pub fn written(text: &[u8], head: Head, clips: &[u64], tags: &[u64]) -> Result<Vec<u8>, Refusal> {
+    let (clip_count, tag_count) = (clips.len() / CLIP_WORDS, tags.len() / TAG_WORDS);
+    let room = text.len().saturating_add(512);
+    let room = room.saturating_add(clip_count.saturating_mul(256)).saturating_add(tag_count.saturating_mul(8));
+    let mut out = vec![0; room];
+    let answer = ffi::write(text, head, clip_count, clips, tag_count, tags, &mut out);
+    check(answer.number, answer.place)?;
+    out.truncate(answer.length as usize);
+    Ok(out)
 }
 
 /// A range's flags, and its words.

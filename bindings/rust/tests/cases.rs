@@ -1,8 +1,10 @@
-//! The binding's tests: values by hand from the examples of documents 01 and 02, and the clock, the window and the cue file
-//! beside what is worked out here. A program of its own (`harness = false`), so that it also runs where the usual start of a
+//! The binding's tests: values by hand from the examples of documents 01 and 02, the clock, the window and the cue file beside
+//! what is worked out here, and what borrows beside what owns. A program of its own (`harness = false`), so that it also runs where the usual start of a
 //! Rust program can't.
 use ledgerfern::*;
+use std::alloc::{GlobalAlloc, Layout, System};
 use std::ops::{Range, RangeInclusive};
+use std::sync::atomic::{AtomicUsize, Ordering};
 
 const SHEET: &[u8] = b"#EXTM3U\n#EXTINF:9.009,bird\na.ts\n#EXTINF:0.004,\nb.ts\n#EXTINF:3.003,\nc.ts\n";
 
@@ -382,7 +384,7 @@ fn goes_on(length: u64) -> Option<ByteRange> {
 fn ranged(clips: &[(&str, Option<ByteRange>)]) -> MediaPlaylist {
     let segment = |(uri, byte_range): &(&str, Option<ByteRange>)| MediaSegment {
         uri: uri.to_string(),
-        byte_range: byte_range.clone(),
+        byte_range: *byte_range,
         ..Default::default()
     };
     MediaPlaylist { segments: clips.iter().map(segment).collect(), ..Default::default() }
@@ -925,38 +927,51 @@ fn verdicts() {
     assert_eq!(is_master_playlist_res(b""), Err(Refusal { number: 3, place: 0 }));
 }
 
-/// The tables are long enough for the texts with the most clips and tags.
-fn fullest() {
+/// The text with the most clips.
+fn fullest_of_clips() -> Vec<u8> {
     let mut clips = b"#EXTM3U".to_vec();
     while clips.len() + 2 <= 65_536 {
         clips.extend_from_slice(b"a\n");
     }
     clips.push(b'a');
-    assert_eq!(parse_media_playlist_res(&clips).map(|list| list.segments.len()), Ok(32_765));
+    clips
+}
+
+/// The text with the most unknown tags.
+fn fullest_of_tags() -> Vec<u8> {
     let mut tags = b"#EXTM3U".to_vec();
     while tags.len() + 8 <= 65_536 {
         tags.extend_from_slice(b"#EXT-a\r");
     }
     tags.push(b'x');
-    assert_eq!(parse_media_playlist_res(&tags).map(|list| list.segments[0].unknown_tags.len()), Ok(9_361));
+    tags
 }
+
+/// The tables are long enough for the texts with the most clips and tags.
+fn fullest() {
+    let (clips, tags) = (fullest_of_clips(), fullest_of_tags());
+    assert_eq!(parse_media_playlist_res(&clips).map(|list| list.segments.len()), Ok(MOST_CLIPS));
+    assert_eq!(parse_media_playlist_res(&tags).map(|list| list.segments[0].unknown_tags.len()), Ok(MOST_TAGS));
+    assert_eq!((MOST_CLIPS, MOST_TAGS), (32_765, 9_361));
+}
+
+const PIECES: [&[u8]; 12] = [
+    b"#EXTM3U",
+    b"\n",
+    b"\r",
+    b"#EXTINF:1.5,",
+    b"#EXT-",
+    b"X-MAP:URI=\"",
+    b"\"",
+    b"#EXT-X-BYTERANGE:7@",
+    b"9",
+    b"a",
+    b"\xc3",
+    b",",
+];
 
 /// Nothing panics: each text of up to six of these pieces is answered.
 fn any_pieces() {
-    let pieces: [&[u8]; 12] = [
-        b"#EXTM3U",
-        b"\n",
-        b"\r",
-        b"#EXTINF:1.5,",
-        b"#EXT-",
-        b"X-MAP:URI=\"",
-        b"\"",
-        b"#EXT-X-BYTERANGE:7@",
-        b"9",
-        b"a",
-        b"\xc3",
-        b",",
-    ];
     let mut seed = 1u64;
     for _ in 0..20_000 {
         let mut text = b"#EXTM3U\n".to_vec();
@@ -964,7 +979,7 @@ fn any_pieces() {
         let mut left = seed >> 16;
         for _ in 0..left % 13 {
             left /= 13;
-            text.extend_from_slice(pieces[(left % 12) as usize]);
+            text.extend_from_slice(PIECES[(left % 12) as usize]);
         }
         if let Ok((rest, list)) = parse_media_playlist(&text) {
             let clips = list.clips();
@@ -1000,6 +1015,238 @@ fn long_map() {
     let out = parsed(&text).to_text().expect("it is written");
     let expected = format!("#EXTM3U\n#EXT-X-TARGETDURATION:0\n#EXT-X-MAP:URI=\"{}\"\n#EXTINF:0,\nx\n", uri);
     assert!(out == expected.as_bytes());
+}
+
+/// The system's allocator, which counts how often it is asked for memory.
+struct Counting;
+
+static ASKED: AtomicUsize = AtomicUsize::new(0);
+
+#[deny(unsafe_op_in_unsafe_fn)]
+unsafe impl GlobalAlloc for Counting {
+    unsafe fn alloc(&self, layout: Layout) -> *mut u8 {
+        ASKED.fetch_add(1, Ordering::Relaxed);
+        unsafe { System.alloc(layout) }
+    }
+
+    unsafe fn dealloc(&self, memory: *mut u8, layout: Layout) {
+        unsafe { System.dealloc(memory, layout) }
+    }
+}
+
+#[global_allocator]
+static COUNTING: Counting = Counting;
+
+/// How often memory is asked for while this is done.
+fn asked<T>(done: impl FnOnce() -> T) -> usize {
+    let before = ASKED.load(Ordering::Relaxed);
+    drop(done());
+    ASKED.load(Ordering::Relaxed) - before
+}
+
+static ALL_TAGS: &str = "#EXTM3U\n#EXT-X-VERSION:6\n#EXT-X-TARGETDURATION:3\n#EXT-X-MEDIA-SEQUENCE:338559\n\
+    #EXT-X-DISCONTINUITY-SEQUENCE:1234\n#EXT-X-PLAYLIST-TYPE:caf\u{e9}\n#EXT-X-I-FRAMES-ONLY\n#EXT-X-INDEPENDENT-SEGMENTS\n\
+    #EXT-X-FOO:bar\n#EXT-X-MAP:URI=\"m\",BYTERANGE=\"3@4\",z=1\n#EXT-X-DISCONTINUITY\n#EXT-X-BYTERANGE:10@5\n\
+    #EXTINF:9.009,\u{6620}\u{50cf}\na\n#EXT-Y\n#EXT-Z:\n#EXT-X-BYTERANGE:7\nb\n#EXT-X-ENDLIST\n";
+
+/// Whether a string is a part of a text, and no copy of one.
+fn stands_in(text: &str, part: &str) -> bool {
+    let (whole, part) = (text.as_bytes().as_ptr_range(), part.as_bytes().as_ptr_range());
+    whole.start <= part.start && part.end <= whole.end
+}
+
+fn borrowed_clips() {
+    let mut reader = Reader::new();
+    let list = reader.read(ALL_TAGS).expect("it is read");
+    assert_eq!((list.len(), list.is_empty(), list.text(), list.rest()), (2, false, ALL_TAGS, ""));
+    let clips: Vec<Clip> = list.clips().collect();
+    let first = Clip {
+        uri: "a",
+        duration: 9.009,
+        duration_ns: 9_009_000_000,
+        title: Some("\u{6620}\u{50cf}"),
+        byte_range: at(5, 10),
+        discontinuity: true,
+        map: Some(MapRef { uri: "m", byte_range: at(4, 3), attributes: "URI=\"m\",BYTERANGE=\"3@4\",z=1" }),
+        unknown_tags: clips[0].unknown_tags,
+    };
+    assert_eq!(clips[0], first);
+    assert!(clips[0].unknown_tags.iter().eq([ExtTagRef { tag: "X-FOO", rest: Some("bar") }]));
+    assert_eq!((clips[1].uri, clips[1].title, clips[1].map), ("b", None, None));
+    assert_eq!((clips[1].duration, clips[1].duration_ns, clips[1].discontinuity), (0.0, 0, false));
+    assert_eq!(clips[1].byte_range, goes_on(7));
+    let tags = clips[1].unknown_tags;
+    assert_eq!((tags.len(), tags.is_empty()), (2, false));
+    assert_eq!(tags.iter().map(|tag| tag.to_string()).collect::<Vec<_>>(), ["#EXT-Y", "#EXT-Z"]);
+    assert!(tags.iter().rev().map(|tag| tag.tag).eq(["Z", "Y"]) && tags != clips[0].unknown_tags);
+    let map = clips[0].map.expect("a map");
+    for part in [clips[0].uri, clips[0].title.unwrap_or("?"), map.uri, map.attributes, clips[1].uri] {
+        assert!(stands_in(ALL_TAGS, part));
+    }
+    assert!(clips.iter().flat_map(|clip| clip.unknown_tags).all(|tag| stands_in(ALL_TAGS, tag.tag)));
+}
+
+fn borrowed_heads() {
+    let mut reader = Reader::new();
+    let list = reader.read(ALL_TAGS).expect("it is read");
+    assert_eq!((list.version(), list.target_duration(), list.media_sequence()), (Some(6), 3, 338_559));
+    assert_eq!((list.discontinuity_sequence(), list.end_list()), (1234, true));
+    assert_eq!((list.i_frames_only(), list.independent_segments()), (true, true));
+    assert_eq!(list.playlist_type(), Some(ListType::Other("caf\u{e9}")));
+    let list = reader.read("#EXTM3U\n#EXT-X-PLAYLIST-TYPE:EVENT\n").expect("it is read");
+    assert_eq!((list.playlist_type(), list.version(), list.end_list()), (Some(ListType::Event), None, false));
+    let list = reader.read("#EXTM3U\n#EXT-X-PLAYLIST-TYPE:VOD\n").expect("it is read");
+    assert_eq!((list.playlist_type(), list.is_empty(), list.clip(0)), (Some(ListType::Vod), true, None));
+    let shown = format!("{:?}", list);
+    assert!(shown.starts_with("List { version: None") && shown.contains("playlist_type: Some(Vod)"), "{}", shown);
+}
+
+/// All that a borrowed list says is what the owned one says.
+fn same_as_owned(reader: &mut Reader, text: &[u8]) {
+    let list = match (reader.read(text), parse_media_playlist(text)) {
+        (Ok(list), Ok((rest, owned))) => {
+            assert!(list.rest().as_bytes() == rest && MediaPlaylist::from(list) == owned);
+            list
+        }
+        (borrowed, owned) => {
+            assert_eq!(borrowed.err(), owned.err());
+            return;
+        }
+    };
+    let owned = MediaPlaylist::from(list);
+    let clips = owned.clips();
+    assert_eq!((list.len(), list.total(), list.to_text()), (clips.len(), clips.total(), owned.to_text()));
+    assert!(list.windows().expect("windows").eq(clips.windows().expect("windows")));
+    assert_eq!((list.window(1), list.start_ns(1)), (clips.window(1), clips.start_ns(1)));
+    assert_eq!(
+        (list.start_tick(9, 2, 1), list.clip_ticks(9, 2, 1)),
+        (clips.start_tick(9, 2, 1), clips.clip_ticks(9, 2, 1))
+    );
+    assert_eq!((list.clip_at(90, 7), list.playing_at(90, 7)), (clips.clip_at(90, 7), clips.playing_at(90, 7)));
+    assert!(list.starts(90, 7).map(Vec::from_iter) == clips.starts(90, 7).map(Vec::from_iter));
+    assert_eq!(list.cue_file(), clips.cue_file());
+    for clip in 0..=list.len() {
+        let owned = owned.segments.get(clip);
+        assert_eq!(list.clip(clip).map(MediaSegment::from).as_ref(), owned);
+    }
+}
+
+fn borrowed_and_owned_agree() {
+    let mut reader = Reader::new();
+    same_as_owned(&mut reader, SHEET);
+    same_as_owned(&mut reader, ALL_TAGS.as_bytes());
+    same_as_owned(&mut reader, &vec![b'\n'; 65_537]);
+    let mut chance = Chance(7);
+    for _ in 0..20_000 {
+        let mut text = b"#EXTM3U\n".to_vec();
+        for _ in 0..chance.upto(12) {
+            text.extend_from_slice(PIECES[chance.upto(PIECES.len() as u64 - 1) as usize]);
+        }
+        same_as_owned(&mut reader, &text);
+    }
+}
+
+/// A text may be of any kind that shows its bytes, and a part of it outlives list and reader.
+fn borrowed_texts() {
+    let text = String::from_utf8_lossy(SHEET).into_owned();
+    let uri = {
+        let mut reader = Reader::default();
+        assert_eq!(reader.read(&text).map(|list| list.len()), Ok(3));
+        assert_eq!(reader.read(text.as_bytes()).map(|list| list.len()), Ok(3));
+        assert_eq!(reader.read(SHEET).map(|list| list.len()), Ok(3));
+        assert_eq!(reader.read(&text.clone().into_bytes()).map(|list| list.len()), Ok(3));
+        let list = reader.read(&text).expect("the sheet is read");
+        let last = list.into_iter().next_back().expect("a clip");
+        let same = last; // a clip is a value that is copied
+        assert_eq!(last, same);
+        same.uri
+    };
+    assert_eq!(uri, "c.ts");
+}
+
+fn borrowed_from_both_ends() {
+    let mut reader = Reader::new();
+    let list = reader.read("#EXTM3U\na\nb\nc\nd\n").expect("it is read");
+    let uri = |clip: Clip<'static, '_>| clip.uri;
+    let mut left = list.clips();
+    assert_eq!((left.len(), left.size_hint()), (4, (4, Some(4))));
+    assert_eq!((left.next().map(uri), left.next_back().map(uri), left.len()), (Some("a"), Some("d"), 2));
+    let rest = left.clone();
+    assert_eq!((left.nth(1).map(uri), left.len()), (Some("c"), 0));
+    assert!(left.next().is_none() && left.next_back().is_none() && left.next().is_none());
+    assert_eq!(rest.rev().map(uri).collect::<Vec<_>>(), ["c", "b"]);
+    assert_eq!((list.clip(3).map(uri), list.clip(4).map(uri), list.clip(usize::MAX).map(uri)), (Some("d"), None, None));
+    assert!(format!("{:?}", list.clips()).starts_with("[Clip { uri: \"a\""));
+}
+
+/// A text with so many clips, each with so many unknown tags.
+fn tagged(clips: usize, tags: usize) -> Vec<u8> {
+    format!("#EXTM3U\n{}", format!("{}a\n", "#EXT-a\n".repeat(tags)).repeat(clips)).into_bytes()
+}
+
+/// Tables of any size are enough, since they grow; what was read before, or refused, does not matter.
+fn readers_of_any_room() {
+    let fullest = [fullest_of_clips(), fullest_of_tags()];
+    let rooms = [(0, 0), (1, 0), (0, 1), (3, 6), (2, 6), (3, 5), (MOST_CLIPS, MOST_TAGS)];
+    for (clips, tags) in rooms {
+        let mut reader = Reader::with_room(clips, tags);
+        for _ in 0..2 {
+            for (clips, tags) in [(3, 2), (0, 0), (40, 0), (1, 90), (200, 3)] {
+                let text = tagged(clips, tags);
+                let list = reader.read(&text).expect("it is read");
+                assert_eq!(list.len(), clips);
+                assert!(list.clips().all(|clip| clip.unknown_tags.len() == tags && clip.uri == "a"));
+                assert_eq!(reader.read("#EXTM3U\n#EXT-X-KEY:\n").err(), Some(Refusal { number: 5, place: 8 }));
+            }
+            for text in &fullest {
+                same_as_owned(&mut reader, text);
+            }
+        }
+        assert!(format!("{:?}", reader).starts_with("Reader { clips: "));
+    }
+}
+
+/// Nothing is allocated for a clip, nor for a text whose list fits the tables.
+fn nothing_allocated() {
+    let text = tagged(200, 2);
+    let mut reader = Reader::with_room(200, 400);
+    let visited = |reader: &mut Reader| {
+        let list = reader.read(&text).expect("it is read");
+        let tags: usize = list.clips().map(|clip| clip.uri.len() + clip.unknown_tags.iter().count()).sum();
+        assert_eq!((tags, list.total(), list.clip_at(1, 0).is_err()), (600, Ok(0), true));
+    };
+    assert_eq!(asked(|| visited(&mut reader)), 0);
+    assert_eq!(asked(|| reader.read("#EXTM3U\n#EXT-X-KEY:\n").is_err()), 0);
+    // A reader without tables makes both, and after that none.
+    let mut reader = Reader::new();
+    assert!(asked(|| visited(&mut reader)) > 0);
+    assert_eq!(asked(|| visited(&mut reader)), 0);
+    // The owned list asks for its segments at once, and for each string and each segment's tags; its tables are there.
+    for (clips, tags, pieces) in [(200, 0, 1 + 200), (10, 3, 1 + 10 * (1 + 1 + 3))] {
+        let list = tagged(clips, tags);
+        drop(parse_media_playlist(&list));
+        assert_eq!(asked(|| parse_media_playlist(&list)), pieces);
+        // Tables for the fullest of texts are not kept, so that the next call makes its own.
+        drop(parse_media_playlist(&fullest_of_clips()));
+        assert!(asked(|| parse_media_playlist(&list)) > pieces);
+        assert_eq!(asked(|| parse_media_playlist(&list)), pieces);
+    }
+}
+
+/// Each thread has its own tables.
+fn threads() {
+    let threads: Vec<_> = (1..4)
+        .map(|tags| {
+            std::thread::spawn(move || {
+                for clips in (0..200).rev() {
+                    let list = parse_media_playlist_res(&tagged(clips, tags)).expect("it is read");
+                    assert_eq!(list.segments.len(), clips);
+                    assert!(list.segments.iter().all(|segment| segment.unknown_tags.len() == tags));
+                }
+            })
+        })
+        .collect();
+    assert!(threads.into_iter().all(|thread| thread.join().is_ok()));
 }
 
 type Case = (&'static str, fn());
@@ -1041,6 +1288,14 @@ const CASES: &[Case] = &[
     ("long map", long_map),
     ("fullest", fullest),
     ("any pieces", any_pieces),
+    ("borrowed clips", borrowed_clips),
+    ("borrowed heads", borrowed_heads),
+    ("borrowed and owned agree", borrowed_and_owned_agree),
+    ("borrowed texts", borrowed_texts),
+    ("borrowed from both ends", borrowed_from_both_ends),
+    ("readers of any room", readers_of_any_room),
+    ("nothing allocated", nothing_allocated),
+    ("threads", threads),
 ];
 
 pub fn main() {

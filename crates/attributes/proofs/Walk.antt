@@ -14,7 +14,7 @@ use Rattle.text.proofs.Many.{Falls, many-stop, items-step, stop-step}
 use Rattle.text.proofs.Takes.{takes-falls}
 use Rattle.attributes.specs.Pairs.{QuotedOrUnquoted, Pair, pair, nextPair, keyValuePairs, inserted, get, words, named, besides}
 use Rattle.attributes.specs.Held.{attrWords, laid, attrAt, LastOfEach}
-use Rattle.attributes.specs.ExtMap.{Map, extMap, uriOf, rangeOf, extmap}
+use Rattle.attributes.specs.ExtMap.{Map, extMap, uriOf, rangeOf, mapped, extmap}
 use Rattle.attributes.specs.Inside.Insert.{insertedFrom}
 use Rattle.attributes.proofs.Takes.{takes-next-pair}
 use Rattle.attributes.proofs.Laid.{laid-nothing, laid-at}
@@ -96,17 +96,14 @@ module _ (text : List ℕ) (at : ℕ) where
   attr-held {names} {sizes} {held₀} e k l h = rw (e .holds) (laid-at (length held₀) k _ h ∙ at-name (λ name. get text name pairs) (words names sizes) k l)
 
   -- ---- a MAP, by what the list has under its two names
-  abbrev pub mapped : Option QuotedOrUnquoted → Option QuotedOrUnquoted → ℕ → Res Map
-  mapped uri range end = bind (uriOf uri text end) (λ u n. bind (rangeOf range text n) (λ r m. ok (extMap u r (span at end)) m))
-
   pub map-by-attrs : (uri range : Option QuotedOrUnquoted) (end : ℕ) →
       let m = many0 nextPair text at in
-      uri ≡ get text (bytes "URI") (items m) → range ≡ get text (bytes "BYTERANGE") (items m) → end ≡ stop m → extmap text at ≡ mapped uri range end
+      uri ≡ get text (bytes "URI") (items m) → range ≡ get text (bytes "BYTERANGE") (items m) → end ≡ stop m → extmap text at ≡ mapped text at uri range end
   unfolding extmap keyValuePairs
   map-by-attrs uri range end u r e = rw (u, r, e) (go (many0 nextPair text at))
     where
       parts : List Pair → ℕ → Res Map
-      parts ps n = mapped (get text (bytes "URI") ps) (get text (bytes "BYTERANGE") ps) n
+      parts ps n = mapped text at (get text (bytes "URI") ps) (get text (bytes "BYTERANGE") ps) n
 
       go : (m : Many Pair) → bind (collected m) parts ≡ parts (items m) (stop m)
       go (many ps n) = refl
@@ -114,7 +111,7 @@ module _ (text : List ℕ) (at : ℕ) where
   -- the names in the code's order
   pub map-by-held : {held₀ held : List ℕ} {end : ℕ} (uri range : Option QuotedOrUnquoted)
       → LastOfEach text at (bytes "URIBYTERANGE") (3 ∷ 9 ∷ []) held₀ held end → 2 * attrWords ≤ length held₀
-      → uri ≡ attrAt held 0 → range ≡ attrAt held 1 → extmap text at ≡ mapped uri range end
+      → uri ≡ attrAt held 0 → range ≡ attrAt held 1 → extmap text at ≡ mapped text at uri range end
   unfolding words
   map-by-held uri range e h u r =
       map-by-attrs uri range _ (u ∙ attr-held e 0 (omega arith) (omega arith)) (r ∙ attr-held e 1 (omega arith) (omega arith)) (e .ends)

@@ -1,8 +1,9 @@
 -- parser.rs, `extmap`, side by side with the Rust. Assumes nothing.
 use Prim.Native.Nat.{ℕ}
+use mathlib.Core.List.{List}
 use mathlib.Core.Option.{Option, none, some}
 use Rattle.text.specs.Why.{noUri, uriNotQuoted, rangeNotQuoted, rangeBad}
-use Rattle.text.specs.Nom.{Res, fail, ok, Parser, Span, span, bytes, place, _>>=_, done}
+use Rattle.text.specs.Nom.{Res, fail, ok, Parser, Span, span, bytes, place, bind, _>>=_, done}
 use Rattle.text.specs.Util.{ByteRange, byteRangeVal}
 use Rattle.attributes.specs.Pairs.{QuotedOrUnquoted, bare, inQuotes, keyValuePairs, get}
 
@@ -26,6 +27,10 @@ abbrev pub rangeOf : Option QuotedOrUnquoted → Parser (Option ByteRange)
 rangeOf none = done none
 rangeOf (some (bare s)) = λ text at. fail rangeNotQuoted
 rangeOf (some (inQuotes (span s e))) = λ text at. begun (byteRangeVal text s) at
+
+-- |mut attrs| { let uri = ..?; let byte_range = ..?; Ok(Map { uri, byte_range, other_attributes: attrs }) }: of a list from one place to another, by what it has
+abbrev pub mapped : List ℕ → ℕ → Option QuotedOrUnquoted → Option QuotedOrUnquoted → ℕ → Res Map
+mapped text from uri range to = bind (uriOf uri text to) (λ u n. bind (rangeOf range text n) (λ r m. ok (extMap u r (span from to)) m))
 
 -- fn extmap = map_res(key_value_pairs, |mut attrs| { let uri = ..?; let byte_range = ..?; Ok(Map { uri, byte_range, other_attributes: attrs }) })
 unfoldable pub extmap : Parser Map

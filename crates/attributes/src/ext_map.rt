@@ -2,7 +2,6 @@
 use crate::held;
 use crate::held::ATTR_WORDS;
 use crate::held::Attr;
-use crate::list;
 use crate::pair::QuotedOrUnquoted;
 use leaves::util;
 use leaves::util::ByteRange;
@@ -13,6 +12,7 @@ ghost use mathlib.Core.Path.{_≡_};
 ghost use Rattle.text.specs.Nom.{ok, bind};
 ghost use Rattle.text.specs.Answers.{spanOf};
 ghost use Rattle.attributes.specs.ExtMap as rule;
+ghost use Rattle.attributes.specs.Held.{attrAt};
 ghost use Rattle.attributes.specs.Answers.{attrOf, optRangeOf, mapRes};
 
 pub enum OptRange {
@@ -68,16 +68,14 @@ const URI: usize = 0;
 
 const BYTERANGE: usize = 1;
 
-const MAP_WORDS: usize = 2 * ATTR_WORDS;
+pub const MAP_WORDS: usize = 2 * ATTR_WORDS;
 
-// What follows the list's last pair is left for the next step.
-pub fn extmap(text: &[u8], at: usize) -> MapRes
-    ensures { λ r. ⌜ mapRes r ≡ rule.extmap (now (text .entry)) at ⌝ }
+// The MAP whose list stands from `at` to `end`, by what is held of it under both names. What follows the list's last pair is left for the next step.
+pub fn map_held(text: &[u8], at: usize, end: usize, held: &[u64]) -> MapRes
+    ensures { λ r. ⌜ mapRes r ≡ rule.mapped (now (text .entry)) at (attrAt (now (held .entry)) 0) (attrAt (now (held .entry)) 1) end ⌝ }
 {
-    let mut held = [0; MAP_WORDS];
-    let end = list::last_of_each(text, at, b"URIBYTERANGE", &[3, 9], &mut held);
-    let uri = held::attr_at(&held, URI);
-    let range = held::attr_at(&held, BYTERANGE);
+    let uri = held::attr_at(held, URI);
+    let range = held::attr_at(held, BYTERANGE);
     let Attr::Present(value) = uri else {
         return MapRes::Fail(Why::NoUri);
     };

@@ -26,12 +26,12 @@ const START: usize = 1;
 const END: usize = 2;
 
 // Its kind is one of these where it is present, and 0 where it is absent.
-const UNQUOTED: u64 = 1;
+pub const UNQUOTED: u64 = 1;
 
-const QUOTED: u64 = 2;
+pub const QUOTED: u64 = 2;
 
 // Every attribute is absent.
-pub(crate) fn clear(held: &mut [u64])
+pub fn clear(held: &mut [u64])
     ensures { λ _. ⌜ now (held .exit) ≡ replicate (length (now (held .entry))) 0 ⌝ }
 {
     let mut i = 0;
@@ -53,7 +53,7 @@ fn put_words(held: &mut [u64], number: usize, kind: u64, value: Span)
 }
 
 // Where there are no words for this number, nothing is held.
-pub(crate) fn put(held: &mut [u64], number: usize, value: QuotedOrUnquoted)
+pub fn put(held: &mut [u64], number: usize, value: QuotedOrUnquoted)
     ensures { λ _. ⌜ now (held .exit) ≡ stored (now (held .entry)) number (rule.wordsOf (some (valueOf value))) ⌝ }
 {
     match value {

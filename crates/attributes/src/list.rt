@@ -18,7 +18,7 @@ ghost use Rattle.attributes.specs.Answers.{pairOf, pairRes};
 pub fn next_pair(text: &[u8], at: usize) -> PairRes
     ensures { λ r. ⌜ pairRes r ≡ rule.nextPair (now (text .entry)) at ⌝ }
 {
-    pair::key_value_pair(text, scan::space0(text, at))
+    pair::key_value_pair(text, blocks::while_two(text, at, b' ', b'\t'))
 }
 
 // Where the name ends that begins here and has so many bytes: at the names' end, where fewer are left.
@@ -33,7 +33,7 @@ fn name_end(names: &[u8], start: usize, size: usize) -> usize
 }
 
 // One pair more: under each name that is the pair's, its value takes the place of what is held there.
-fn insert(text: &[u8], p: Pair, names: &[u8], sizes: &[usize], held: &mut [u64])
+pub fn insert(text: &[u8], p: Pair, names: &[u8], sizes: &[usize], held: &mut [u64])
     ensures { λ _. ⌜ now (held .exit) ≡ insertedFrom (now (text .entry)) (pairOf p) 0 (rule.words (now (names .entry)) (now (sizes .entry))) (now (held .entry)) ⌝ }
 {
     let name = p.name;

@@ -22,7 +22,7 @@ pub fn quoted(text: &[u8], at: usize) -> ValueRes
 {
     if scan::starts_with(text, at, b"\"") {
         let start = at + 1;
-        let end = scan::until_one(text, start, b'"');
+        let end = blocks::until_one(text, start, b'"');
         if end <= start {
             return ValueRes::Fail(Why::MissingByte);
         }
@@ -37,7 +37,7 @@ pub fn quoted(text: &[u8], at: usize) -> ValueRes
 pub fn unquoted(text: &[u8], at: usize) -> ValueRes
     ensures { λ r. ⌜ valueRes r ≡ rule.unquoted (now (text .entry)) at ⌝ }
 {
-    let end = scan::until_three(text, at, b',', b'\r', b'\n');
+    let end = blocks::until_three(text, at, b',', b'\r', b'\n');
     if at < end {
         ValueRes::Ok(QuotedOrUnquoted::Unquoted(Span { start: at, end }), end)
     } else {
@@ -75,7 +75,7 @@ pub fn key_value_pair(text: &[u8], at: usize) -> PairRes
     if scan::is_one_of(b"\r\n", text[at]) {
         return PairRes::Fail(Why::MissingByte);
     }
-    let name_end = scan::until_one(text, at, b'=');
+    let name_end = blocks::until_one(text, at, b'=');
     if text.len() <= name_end {
         return PairRes::Fail(Why::OtherText);
     }

@@ -1,21 +1,16 @@
--- Laws of stretches of places: what holds of two that meet holds of both, and what stays the same from place to place is the same at
--- both ends. Assumes nothing.
-use mathlib.Core.Path.{_≡_, refl, sym, _∙_, ap, subst}
-use mathlib.Core.Bool.{Bool, true, false, _&&_, _||_}
+-- Laws of blocks: what the tests of their bytes tell, byte by byte, and so of the runs that they are part of. Assumes nothing.
+use mathlib.Core.Path.{_≡_, refl, sym, _∙_}
+use mathlib.Core.Bool.{Bool, true, false, not, _&&_, _||_}
 use mathlib.Core.List.{List, [], _∷_}
-use Prim.Native.Nat.{ℕ, zero, suc, _+_, _-_, _≤_, _<_}
-use native.Mathlib.Nat.{le-refl, add-zero}
+use Prim.Native.Nat.{ℕ, _+_, _≤_, _<_}
 use native.Mathlib.Decide.{decLe}
 use native.Mathlib.Omega.{arith}
 use lib.Dec.{leb, eqb}
 use borrow.Author.Tests.{ne-eqb, leb-true, le-leb}
 use lib.ListN.{length, getD}
-use Rattle.text.specs.Nom.{bytes, isAscii, isOneOf, isNoneOf, runEnd}
-use Rattle.text.proofs.Laws.{and-left, and-right, or-false, run-step}
-
--- each place from a on and before b
-abbrev pub All : (ℕ → Type 0) → ℕ → ℕ → Type 0
-All P a b = (j : ℕ) → a ≤ j → j < b → P j
+use Rattle.text.specs.Nom.{bytes, isAscii, isDigit, isOneOf, isNoneOf, runEnd}
+use Rattle.text.proofs.Laws.{and-left, and-right, or-false, run-out, run-stop}
+use Rattle.text.proofs.Stretches.{All, Passes, more, run-on}
 
 -- a byte from lo to hi
 abbrev pub Within : ℕ → ℕ → List ℕ → ℕ → Type 0
@@ -25,20 +20,9 @@ Within lo hi text j = (lo ≤ getD text j 0) × (getD text j 0 ≤ hi)
 abbrev pub There : ℕ → ℕ → List ℕ → ℕ → Type 0
 There lo hi text j = (j < length text) × Within lo hi text j
 
--- a byte that passes the test
-abbrev pub Passes : (ℕ → Bool) → List ℕ → ℕ → Type 0
-Passes p text j = p (getD text j 0) ≡ true
-
-module _ (P : ℕ → Type 0) where
-  pub join : (a b d : ℕ) → All P a b → All P b d → All P a d
-  join a b d f g j h l = go (decLe b j)
-    where
-      go : Dec (b ≤ j) → P j
-      go (yes m) = g j m l
-      go (no m) = f j h (omega arith)
-
-  more : (a b : ℕ) → All P a b → P b → All P a (b + 1)
-  more a b f p = join a b (b + 1) f (λ j h l. let e : b ≡ j = omega arith in subst P e p)
+-- a byte that is not x
+abbrev pub Lacks : ℕ → List ℕ → ℕ → Type 0
+Lacks x text j = eqb x (getD text j 0) ≡ false
 
 -- four tests, joined from the left, as a set of four joins them
 or-four : (b c d e : Bool) → (b || (c || (d || (e || false)))) ≡ (((b || c) || d) || e)
@@ -46,6 +30,10 @@ or-four true c d e = refl
 or-four false true d e = refl
 or-four false false true e = refl
 or-four false false false e = or-false e
+
+not-true : (b : Bool) → not b ≡ true → b ≡ false
+not-true true e = sym e
+not-true false e = refl
 
 -- one more byte is tested
 module _ (text : List ℕ) (a b : ℕ) (w : Bool) where
@@ -60,28 +48,50 @@ module _ (text : List ℕ) (a b : ℕ) (w : Bool) where
       let x = getD text b 0 in
       more (Passes (isOneOf (s ∷ t ∷ u ∷ v ∷ [])) text) a b (h (and-left w _ e)) (or-four (eqb s x) (eqb t x) (eqb u x) (eqb v x) ∙ and-right w _ e)
 
-module _ (f : ℕ → ℕ) where
-  same-by : (k a : ℕ) → All (λ j. f j ≡ f (j + 1)) a (a + k) → f a ≡ f (a + k)
-  same-by zero a h = ap f (sym (add-zero a))
-  same-by (suc k) a h =
-      let z : a + 1 + k ≡ a + suc k = omega arith in
-      h a (le-refl a) (omega arith) ∙ same-by k (a + 1) (λ j m l. h j (omega arith) (omega arith)) ∙ ap f z
+  pub lacks-on : (x : ℕ) → (w ≡ true → All (Lacks x text) a b) → (w && not (eqb x (getD text b 0))) ≡ true → All (Lacks x text) a (b + 1)
+  lacks-on x h e = more (Lacks x text) a b (h (and-left w _ e)) (not-true (eqb x (getD text b 0)) (and-right w _ e))
 
-  pub same : (a b : ℕ) → a ≤ b → All (λ j. f j ≡ f (j + 1)) a b → f a ≡ f b
-  same a b m h = let z : a + (b - a) ≡ b = omega arith in same-by (b - a) a (λ j n l. h j n (omega arith)) ∙ ap f z
+-- a byte that is none of four, each looked for apart
+pub lacks-four : (text : List ℕ) (s t u v j : ℕ) → Lacks s text j → Lacks t text j → Lacks u text j → Lacks v text j → Passes (isNoneOf (s ∷ t ∷ u ∷ v ∷ [])) text j
+lacks-four text s t u v j e f g h = rw (e, f, g, h)
 
 module _ (text : List ℕ) (a b : ℕ) (m : a ≤ b) where
-  -- a run goes on past bytes that pass its test
-  pub run-on : (p : ℕ → Bool) → All (λ j. (j < length text) × Passes p text j) a b → runEnd p text a ≡ runEnd p text b
-  run-on p h = same (runEnd p text) a b m (λ j n l. run-step p text j (h j n l .0) (h j n l .1))
-
-  -- a line past bytes above CR
+  -- a line goes on past bytes above CR
   pub line-on : All (λ j. (j < length text) × (14 ≤ getD text j 0)) a b → runEnd (isNoneOf (bytes "\r\n")) text a ≡ runEnd (isNoneOf (bytes "\r\n")) text b
-  line-on h = run-on (isNoneOf (bytes "\r\n")) (λ j n l. (h j n l .0, above (getD text j 0) (h j n l .1)))
+  line-on h = run-on (isNoneOf (bytes "\r\n")) text a b m (λ j n l. (h j n l .0, above (getD text j 0) (h j n l .1)))
     where
       above : (x : ℕ) → 14 ≤ x → isNoneOf (bytes "\r\n") x ≡ true
       above x k = rw (ne-eqb 13 x (λ e. omega arith), ne-eqb 10 x (λ e. omega arith))
 
   -- ASCII past bytes below 0x80
   pub ascii-on : All (There 0 0x7F text) a b → runEnd isAscii text a ≡ runEnd isAscii text b
-  ascii-on h = run-on isAscii (λ j n l. (h j n l .0, le-leb (getD text j 0) 0x7F (h j n l .1 .1)))
+  ascii-on h = run-on isAscii text a b m (λ j n l. (h j n l .0, le-leb (getD text j 0) 0x7F (h j n l .1 .1)))
+
+  -- digits past bytes from `0` to `9`
+  pub digits-on : All (There 48 57 text) a b → runEnd isDigit text a ≡ runEnd isDigit text b
+  unfolding isDigit
+  digits-on h = run-on isDigit text a b m (λ j n l. (h j n l .0, rw (le-leb 48 (getD text j 0) (h j n l .1 .0), le-leb (getD text j 0) 57 (h j n l .1 .1))))
+
+-- one of two, each looked for apart
+or-two : (b c : Bool) → (b || (c || false)) ≡ (b || c)
+or-two true c = refl
+or-two false c = or-false c
+
+pub one-of-two : (s t x : ℕ) → isOneOf (s ∷ t ∷ []) x ≡ (eqb s x || eqb t x)
+one-of-two s t x = or-two (eqb s x) (eqb t x)
+
+-- a set of two that repeats its byte is the smaller set
+pub same-byte : (a x : ℕ) → isOneOf (a ∷ a ∷ []) x ≡ isOneOf (a ∷ []) x
+same-byte a x = go (eqb a x)
+  where
+    go : (b : Bool) → (b || (b || false)) ≡ (b || false)
+    go true = refl
+    go false = refl
+
+-- a run is empty where a byte stands that fails its test, or none
+pub run-none : (p : ℕ → Bool) (text : List ℕ) (at : ℕ) → p (getD text at 0) ≡ false → runEnd p text at ≡ at
+run-none p text at e = go (decLe (length text) at)
+  where
+    go : Dec (length text ≤ at) → runEnd p text at ≡ at
+    go (yes h) = run-out p text at h
+    go (no h) = run-stop p text at (omega arith) e

@@ -1,4 +1,2 @@
--- stretches of places
+-- blocks, byte by byte
 pub mod Blocks
--- eight bytes at once
-pub mod Eight

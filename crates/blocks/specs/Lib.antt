@@ -1,1 +1,1 @@
-pub mod Inside
+-- the rules stand in `text`

@@ -32,7 +32,7 @@ fn range_value(out: &mut [u8], at: usize, r: ByteRange) -> usize
     }
 }
 
-fn range_line(out: &mut [u8], at: usize, r: ByteRange) -> usize
+pub(crate) fn range_line(out: &mut [u8], at: usize, r: ByteRange) -> usize
     ensures { λ n. ⌜ Puts (now (out .entry)) at (lineBytes (byteRangeLine (byteRangeOf r))) (now (out .exit)) n ⌝ }
 {
     let value = put::copy(out, at, b"#EXT-X-BYTERANGE:");
@@ -126,6 +126,17 @@ pub(crate) fn extinf_line(out: &mut [u8], at: usize, text: &[u8], ns: u64, name:
     let comma = numerals::length(out, start, ns);
     let shown = put::byte(out, comma, b',');
     let end = title(out, shown, text, name);
+    put::byte(out, end, b'\n')
+}
+
+// The same of a title that is there as a span in any case: where there is none, the span shows nothing.
+pub(crate) fn extinf_shown(out: &mut [u8], at: usize, text: &[u8], ns: u64, name: Span) -> usize
+    ensures { λ r. ⌜ Puts (now (out .entry)) at (lineBytes (extinfLine ns (shown (now (text .entry)) (spanOf name)))) (now (out .exit)) r ⌝ }
+{
+    let start = put::copy(out, at, b"#EXTINF:");
+    let comma = numerals::length(out, start, ns);
+    let shown = put::byte(out, comma, b',');
+    let end = put::shown(out, shown, text, name);
     put::byte(out, end, b'\n')
 }
 

@@ -1,18 +1,20 @@
 -- What the loop of `number` knows, and what follows at each of its ways out. Assumes nothing.
-use mathlib.Core.Path.{_≡_, refl, sym, _∙_}
-use mathlib.Core.Bool.{Bool, true, false}
-use mathlib.Core.List.{List}
-use Prim.Native.Nat.{ℕ, _+_, _*_, _-_, _≤_, _<_, _^_}
+use mathlib.Core.Path.{_≡_, refl, sym, _∙_, ap}
+use mathlib.Core.Bool.{Bool, true, false, cond}
+use mathlib.Core.List.{List, [], _∷_}
+use Prim.Native.Nat.{ℕ, suc, _+_, _*_, _-_, _≤_, _<_, _^_}
+use native.Mathlib.Nat.{suc-add, zero-add, add-assoc}
 use native.Mathlib.Omega.{arith}
-use lib.Dec.{ltb}
+use lib.Dec.{ltb, eqb}
 use lib.ListN.{length, drop, getD}
-use borrow.Author.Tests.{ltb-true, ltb-false, lt-ltb, le-ltb}
+use lib.Seq.{drop-drop}
+use borrow.Author.Tests.{eqb-true, ltb-true, ltb-false, lt-ltb, le-ltb}
 use Rattle.text.specs.Why.{noDigits}
-use Rattle.text.specs.Nom.{fail, ok, runEnd, decimal, isDigit}
+use Rattle.text.specs.Nom.{fail, ok, bytes, isOneOf, run, runEnd, decimal, isDigit}
 use Rattle.text.specs.Util.{parsed, fits, large}
 use Rattle.leaves.specs.Inside.Ends.{pickParsed}
 use Rattle.leaves.specs.Answers.{parsedOf}
-use Rattle.text.proofs.Laws.{run-from, run-step, run-stop, run-out, decimal-step, decimal-stop, decimal-out, decimal-le}
+use Rattle.text.proofs.Laws.{or-false, run-from, run-step, run-stop, run-out, decimal-step, decimal-stop, decimal-out, decimal-le}
 
 -- ---- the three outcomes
 module _ (text : List ℕ) (at : ℕ) where
@@ -35,6 +37,47 @@ pub record Counted (text : List ℕ) (at i v : ℕ) : Type 0 where
   pub from : at ≤ i
   pub small : v < 2 ^ 64
 
+-- ---- zeros in front
+abbrev isZero : ℕ → Bool
+isZero = isOneOf (bytes "0")
+
+zero-byte : (x : ℕ) → isZero x ≡ true → x ≡ 48
+zero-byte x e = sym (eqb-true 48 x (sym (or-false (eqb 48 x)) ∙ e))
+
+-- behind them the number is the same
+zeros-value : (s : List ℕ) → decimal 0 s ≡ decimal 0 (drop (run isZero s) s)
+unfolding decimal run
+zeros-value [] = refl
+zeros-value (x ∷ s) = go (isZero x) refl (zeros-value s)
+  where
+    go : (b : Bool) → isZero x ≡ b → decimal 0 s ≡ decimal 0 (drop (run isZero s) s) → decimal 0 (x ∷ s) ≡ decimal 0 (drop (cond b (suc (run isZero s)) 0) (x ∷ s))
+    go true e ih = rw (zero-byte x e) ih
+    go false e ih = refl
+
+-- and so is the run of digits
+zeros-run : (s : List ℕ) → run isDigit s ≡ run isZero s + run isDigit (drop (run isZero s) s)
+unfolding run isDigit
+zeros-run [] = refl
+zeros-run (x ∷ s) = go (isZero x) refl (zeros-run s)
+  where
+    go : (b : Bool) → isZero x ≡ b → run isDigit s ≡ run isZero s + run isDigit (drop (run isZero s) s)
+        → run isDigit (x ∷ s) ≡ cond b (suc (run isZero s)) 0 + run isDigit (drop (cond b (suc (run isZero s)) 0) (x ∷ s))
+    go true e ih = rw (zero-byte x e, ih) (sym (suc-add _ _))
+    go false e ih = sym (zero-add _)
+
+pub counted-zeros : (text : List ℕ) (at z : ℕ) → z ≡ runEnd isZero text at → Counted text at z 0
+unfolding runEnd
+counted-zeros text at z e =
+    let zs = run isZero (drop at text) in
+    let rest : drop z text ≡ drop zs (drop at text) = ap (λ k. drop k text) e ∙ sym (drop-drop zs at text) in
+    record {
+      run = rw (rest, e, zeros-run (drop at text)) (sym (add-assoc at zs _));
+      value = zeros-value (drop at text) ∙ ap (decimal 0) (sym rest);
+      from = omega arith;
+      small = omega arith;
+    }
+
+-- ---- one digit more
 module _ (text : List ℕ) (at i v : ℕ) (c : Counted text at i v) where
   pub counted-step : i < length text → isDigit (getD text i 0) ≡ true → v * 10 + (getD text i 0 - 48) < 2 ^ 64 → Counted text at (i + 1) (v * 10 + (getD text i 0 - 48))
   counted-step h e k =

@@ -37,7 +37,7 @@ pub fn ext_tag(text: &[u8], at: usize) -> ExtTagRes
 {
     if scan::starts_with(text, at, b"#EXT-") {
         let name = at + 5;
-        let name_end = scan::until_three(text, name, b'\r', b'\n', b':');
+        let name_end = blocks::until_three(text, name, b'\r', b'\n', b':');
         if name_end <= name {
             return ExtTagRes::Fail(Why::NameEmpty);
         }

@@ -34,7 +34,7 @@ pub enum Parsed {
     Value(u64, usize),
 }
 
-// Up to this value ten times it and any digit fit, so that the division is made for the last digits of large numbers only.
+// Up to this value ten times it and any digit fit.
 const SAFE: u64 = 1_844_674_407_370_955_160;
 
 const LARGEST: u64 = 18_446_744_073_709_551_615;
@@ -56,11 +56,12 @@ fn parsed_to(v: u64, at: usize, end: usize) -> Parsed
     }
 }
 
-// Digits of any number: only a value that passes 2^64 - 1 is too large, however many zeros stand in front.
-pub fn number(text: &[u8], at: usize) -> Parsed
+// Digits of any number: only a value that passes 2^64 - 1 is too large, however many zeros stand in front. Zeros in front write 0, and are passed at once, as
+// are the digits behind one that is too much.
+fn long_number(text: &[u8], at: usize) -> Parsed
     ensures { λ r. ⌜ parsedOf r ≡ rule.parsed (now (text .entry)) at ⌝ }
 {
-    let mut i = at;
+    let mut i = blocks::while_one(text, at, b'0');
     let mut v: u64 = 0;
     while i < text.len() {
         let b = text[i];
@@ -68,10 +69,41 @@ pub fn number(text: &[u8], at: usize) -> Parsed
             let d = digit_value(b);
             if SAFE < v {
                 if (LARGEST - d) / 10 < v {
-                    return Parsed::TooLarge(scan::digits_end(text, i));
+                    return Parsed::TooLarge(blocks::digits_end(text, i));
                 }
             }
             v = v * 10 + d;
+            i += 1;
+        } else {
+            return parsed_to(v, at, i);
+        }
+    }
+    parsed_to(v, at, i)
+}
+
+fn two_zeros(text: &[u8], at: usize) -> bool {
+    if scan::byte_at(text, at, 0) == b'0' {
+        return scan::byte_at(text, at, 1) == b'0';
+    }
+    false
+}
+
+// What `long_number` reads. A number without zeros in front that is not near the largest is read here, in few steps: nearly all are.
+pub fn number(text: &[u8], at: usize) -> Parsed
+    ensures { λ r. ⌜ parsedOf r ≡ rule.parsed (now (text .entry)) at ⌝ }
+{
+    if two_zeros(text, at) {
+        return long_number(text, at);
+    }
+    let mut i = at;
+    let mut v: u64 = 0;
+    while i < text.len() {
+        let b = text[i];
+        if scan::is_digit(b) {
+            if SAFE < v {
+                return long_number(text, at);
+            }
+            v = v * 10 + digit_value(b);
             i += 1;
         } else {
             return parsed_to(v, at, i);

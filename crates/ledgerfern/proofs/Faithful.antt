@@ -9,7 +9,7 @@ use Rattle.text.proofs.Only.{Only, only-by}
 use Rattle.tables.specs.Refusal.{Refusal, numberOf, Answer, refused, given}
 use Rattle.tables.proofs.Refusals.{byNumber, by-number, number-above}
 use Rattle.assembly.specs.Assembly.{Head}
-use Rattle.media.specs.Calls.{Read, read}
+use Rattle.media.specs.Calls.{Read, read, Room, room}
 use Rattle.playing.specs.Playing.{Pair, pair, Playing, playing}
 use Rattle.window.specs.Window.{Window, none, range}
 use Rattle.windows.specs.Table.{windowRecord}
@@ -17,6 +17,7 @@ use Rattle.text.specs.Nom.{span}
 use Rattle.cue_file.specs.Read.{Found, found}
 use Rattle.ledgerfern.specs.declared.Verdict as verdictᵈ
 use Rattle.ledgerfern.specs.declared.Read as readᵈ
+use Rattle.ledgerfern.specs.declared.Room as roomᵈ
 use Rattle.ledgerfern.specs.declared.Value as valueᵈ
 use Rattle.ledgerfern.specs.declared.On as onᵈ
 use Rattle.ledgerfern.specs.declared.Playing as playingᵈ
@@ -25,7 +26,7 @@ use Rattle.ledgerfern.specs.declared.Window as windowᵈ
 use Rattle.ledgerfern.specs.declared.Windows as windowsᵈ
 use Rattle.ledgerfern.specs.declared.Written as writtenᵈ
 use Rattle.ledgerfern.specs.declared.Cue as cueᵈ
-use Rattle.ledgerfern.specs.Numbers.{verdictNumbers, valueNumbers, onNumbers, playingNumbers, startsNumbers, windowNumbers, windowsNumbers, writtenNumbers, cueNumbers, readNumbers}
+use Rattle.ledgerfern.specs.Numbers.{verdictNumbers, valueNumbers, onNumbers, playingNumbers, startsNumbers, windowNumbers, windowsNumbers, writtenNumbers, cueNumbers, readNumbers, roomNumbers}
 use Rattle.ledgerfern.specs.Heads.{markFrom, headFrom}
 use Rattle.ledgerfern.proofs.HeadNumbers.{mark-in, numbers-in}
 
@@ -152,3 +153,13 @@ read-faithful = only-by readNumbers readBack go
     go : (a : Answer Read) → readBack (readNumbers a) ≡ a
     go (refused r p) = row-back r p _
     go (given (read h c t n)) = ap (λ (x : Head). given (read x c t n)) (numbers-in h)
+
+abbrev roomBack : roomᵈ.Room → Answer Room
+roomBack v = answerFrom (v .number) (v .place) (room (v .clips) (v .tags))
+
+pub room-faithful : Only roomNumbers
+room-faithful = only-by roomNumbers roomBack go
+  where
+    go : (a : Answer Room) → roomBack (roomNumbers a) ≡ a
+    go (refused r p) = row-back r p _
+    go (given (room clips tags)) = refl

@@ -6,3 +6,5 @@ pub mod Faithful
 pub mod Only
 -- what the writer's call says
 pub mod Writes
+-- the room that is said is the room that the reader needs
+pub mod Rooms

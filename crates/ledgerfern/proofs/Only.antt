@@ -4,11 +4,13 @@ use mathlib.Core.Bool.{Bool}
 use mathlib.Core.List.{List}
 use Prim.Native.Nat.{ℕ}
 use Rattle.tables.specs.Refusal.{Answer}
+use Rattle.media.specs.Calls.{Room}
 use Rattle.playing.specs.Playing.{Pair, Playing}
 use Rattle.window.specs.Window.{Window}
 use Rattle.cue_file.specs.Read.{Found}
 use Rattle.ledgerfern.specs.declared.Verdict as verdictᵈ
 use Rattle.ledgerfern.specs.declared.Read as readᵈ
+use Rattle.ledgerfern.specs.declared.Room as roomᵈ
 use Rattle.ledgerfern.specs.declared.Value as valueᵈ
 use Rattle.ledgerfern.specs.declared.On as onᵈ
 use Rattle.ledgerfern.specs.declared.Playing as playingᵈ
@@ -18,7 +20,7 @@ use Rattle.ledgerfern.specs.declared.Windows as windowsᵈ
 use Rattle.ledgerfern.specs.declared.Cue as cueᵈ
 use Rattle.ledgerfern.specs.declared.Head as headᵈ
 use Rattle.ledgerfern.specs.declared.Written as writtenᵈ
-use Rattle.ledgerfern.specs.Numbers.{verdictNumbers, valueNumbers, onNumbers, playingNumbers, windowNumbers, cueNumbers, ReadAs, StartsAs, WindowsAs, CueWriteAs}
+use Rattle.ledgerfern.specs.Numbers.{verdictNumbers, roomNumbers, valueNumbers, onNumbers, playingNumbers, windowNumbers, cueNumbers, ReadAs, StartsAs, WindowsAs, CueWriteAs}
 use Rattle.ledgerfern.specs.Write.{WriteAs}
 
 -- of a promise `r ≡ x`
@@ -28,6 +30,10 @@ one x a b p q = p ∙ sym q
 -- `ledgerfern_verdict`
 pub verdict-once : (x : Answer Bool) (a b : verdictᵈ.Verdict) → a ≡ verdictNumbers x → b ≡ verdictNumbers x → a ≡ b
 verdict-once x = one (verdictNumbers x)
+
+-- `ledgerfern_room`
+pub room-once : (x : Answer Room) (a b : roomᵈ.Room) → a ≡ roomNumbers x → b ≡ roomNumbers x → a ≡ b
+room-once x = one (roomNumbers x)
 
 -- `ledgerfern_total`, `ledgerfern_start_ns`, `ledgerfern_start_tick`, `ledgerfern_clip_ticks`
 pub value-once : (x : Answer ℕ) (a b : valueᵈ.Value) → a ≡ valueNumbers x → b ≡ valueNumbers x → a ≡ b

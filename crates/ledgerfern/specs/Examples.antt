@@ -8,11 +8,12 @@ use Rattle.text.specs.Nom.{span}
 use Rattle.text.specs.BasicTags.{event, vod, other}
 use Rattle.tables.specs.Refusal.{refused, given, leftOutTag, outputShort, noSuchClip, nothingPlays, tickTooLate, badStart, tooWide}
 use Rattle.assembly.specs.Assembly.{Head, head, emptyHead}
+use Rattle.media.specs.Calls.{room}
 use Rattle.playing.specs.Playing.{pair, playing}
 use Rattle.window.specs.Window as window
 use Rattle.cue_file.specs.Read.{found}
 use Rattle.ledgerfern.specs.declared.Head as headᵈ
-use Rattle.ledgerfern.specs.Numbers.{verdictNumbers, valueNumbers, onNumbers, playingNumbers, startsNumbers, windowNumbers, windowsNumbers, writtenNumbers, cueNumbers, typeNumber, headNumbers, readNumbers}
+use Rattle.ledgerfern.specs.Numbers.{verdictNumbers, valueNumbers, onNumbers, playingNumbers, startsNumbers, windowNumbers, windowsNumbers, writtenNumbers, cueNumbers, typeNumber, headNumbers, readNumbers, roomNumbers}
 use Rattle.ledgerfern.specs.Heads.{isVersion, isType, isHead, typeFrom, headFrom, headOf}
 
 -- a head of zeros but for its marks
@@ -37,6 +38,11 @@ headᶻ = marked 0 0 0
 -- * M`#EXT-X-KEY:METHOD=NONE\n`: 5 at 8, and zeros for all else
 refused-read : readNumbers (refused leftOutTag 8) ≡ record { number = 5; place = 8; clips = 0; tags = 0; stop = 0; head = headᶻ }
 refused-read = refl
+
+-- clips, then kept tags
+rooms : roomNumbers (given (room 2 1)) ∷ roomNumbers (refused leftOutTag 8) ∷ []
+    ≡ record { number = 0; place = 0; clips = 2; tags = 1 } ∷ record { number = 5; place = 8; clips = 0; tags = 0 } ∷ []
+rooms = refl
 
 refused-value : valueNumbers (refused noSuchClip 0) ≡ record { number = 14; place = 0; value = 0 }
 refused-value = refl

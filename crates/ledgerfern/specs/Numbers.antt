@@ -11,7 +11,7 @@ use Rattle.text.specs.BasicTags.{PlaylistType, event, vod, other}
 use Rattle.tables.specs.Refusal.{Answer, refused, given, laid, answerNumber, answerPlace}
 use Rattle.assembly.specs.Assembly.{Head, head, emptyHead}
 use Rattle.assembly.specs.Words.{clipsWords, tagsWords}
-use Rattle.media.specs.Calls.{Read, read, parseMediaPlaylist, clipsRead, tagsRead}
+use Rattle.media.specs.Calls.{Read, read, Room, room, parseMediaPlaylist, clipsRead, tagsRead}
 use Rattle.starts.specs.Table.{startRecords, allStarts}
 use Rattle.playing.specs.Playing.{Pair, pair, Playing, playing}
 use Rattle.window.specs.Window as window
@@ -22,6 +22,7 @@ use Rattle.cue_file.specs.Read.{Found, found}
 use Rattle.ledgerfern.specs.declared.Verdict as verdictᵈ
 use Rattle.ledgerfern.specs.declared.Head as headᵈ
 use Rattle.ledgerfern.specs.declared.Read as readᵈ
+use Rattle.ledgerfern.specs.declared.Room as roomᵈ
 use Rattle.ledgerfern.specs.declared.Value as valueᵈ
 use Rattle.ledgerfern.specs.declared.On as onᵈ
 use Rattle.ledgerfern.specs.declared.Playing as playingᵈ
@@ -214,3 +215,13 @@ pub record ReadAs (text clips₀ tags₀ clips tags : List ℕ) (r : readᵈ.Rea
   pub answered : r ≡ readNumbers (parseMediaPlaylist text (length clips₀) (length tags₀))
   pub clips-after : clips ≡ laid (parseMediaPlaylist text (length clips₀) (length tags₀)) (clipsWords (clipsRead text)) clips₀
   pub tags-after : tags ≡ laid (parseMediaPlaylist text (length clips₀) (length tags₀)) (tagsWords (tagsRead text)) tags₀
+
+-- ---- the room that the reader needs: "clips, kept tags"
+abbrev pub clipsNeeded : Room → ℕ
+clipsNeeded (room clips tags) = clips
+
+abbrev pub tagsNeeded : Room → ℕ
+tagsNeeded (room clips tags) = tags
+
+abbrev pub roomNumbers : Answer Room → roomᵈ.Room
+roomNumbers a = record { number = answerNumber a; place = answerPlace a; clips = orZero clipsNeeded a; tags = orZero tagsNeeded a }

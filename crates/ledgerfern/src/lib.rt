@@ -5,12 +5,13 @@ use crate::heads::HeadRes;
 use clock::turns;
 ghost use mathlib.Core.Path.{_≡_};
 ghost use Rattle.verdict.specs.Calls.{isMasterPlaylist};
+ghost use Rattle.media.specs.Calls.{roomFor};
 ghost use Rattle.clock.specs.Calls as clock;
 ghost use Rattle.playing.specs.Playing as playing;
 ghost use Rattle.window.specs.Window as window;
 ghost use Rattle.cue_file.specs.Format.{version1};
 ghost use Rattle.cue_file.specs.Read.{cueRead};
-ghost use Rattle.ledgerfern.specs.Numbers.{verdictNumbers, valueNumbers, windowNumbers, onNumbers, playingNumbers, cueNumbers, ReadAs, StartsAs, WindowsAs, CueWriteAs};
+ghost use Rattle.ledgerfern.specs.Numbers.{verdictNumbers, roomNumbers, valueNumbers, windowNumbers, onNumbers, playingNumbers, cueNumbers, ReadAs, StartsAs, WindowsAs, CueWriteAs};
 ghost use Rattle.ledgerfern.specs.Write.{WriteAs};
 
 pub mod numbers; // the numbers of an answer
@@ -48,6 +49,15 @@ pub struct Read {
     pub tags: u64,
     pub stop: u64,
     pub head: Head,
+}
+
+// How many clips and kept unknown tags the reader has to store.
+#[repr(C)]
+pub struct Room {
+    pub number: u64,
+    pub place: u64,
+    pub clips: u64,
+    pub tags: u64,
 }
 
 // How many bytes were written.
@@ -137,6 +147,14 @@ pub extern "C" fn ledgerfern_read(text: &[u8], clips: &mut [u64], tags: &mut [u6
     ensures { λ r. ⌜ ReadAs (now (text .entry)) (now (clips .entry)) (now (tags .entry)) (now (clips .exit)) (now (tags .exit)) r ⌝ }
 {
     numbers::of_read(media::parse_media_playlist(text, clips, tags))
+}
+
+// How many records the two tables of the reader need to have room for: it refuses what the reader does, but for the tables.
+#[no_mangle]
+pub extern "C" fn ledgerfern_room(text: &[u8]) -> Room
+    ensures { λ r. ⌜ r ≡ roomNumbers (roomFor (now (text .entry))) ⌝ }
+{
+    numbers::of_room(media::room(text))
 }
 
 // Writes a playlist of a head, clips and unknown tags into the lent output. Numbers that no head has break rule 9; a text that is too long comes first.

@@ -4,6 +4,7 @@ use crate::Head;
 use crate::On;
 use crate::Playing;
 use crate::Read;
+use crate::Room;
 use crate::Starts;
 use crate::Value;
 use crate::Verdict;
@@ -16,6 +17,7 @@ use assembly::head::Version;
 use cue_file::Found;
 use leaves::basic_tags::PlaylistType;
 use media::ParseAnswer;
+use media::RoomAnswer;
 use playing::Played;
 use playlist::WriteAnswer;
 use tables::Laid;
@@ -26,7 +28,7 @@ ghost use mathlib.Core.Path.{_≡_};
 ghost use Rattle.tables.specs.Answers.{laidOf};
 ghost use Rattle.verdict.specs.Answers.{masterAnswer};
 ghost use Rattle.assembly.specs.Answers.{versionOf, headTypeOf, headSeen};
-ghost use Rattle.media.specs.Answers.{parseAnswer};
+ghost use Rattle.media.specs.Answers.{parseAnswer, roomAnswer};
 ghost use Rattle.clock.specs.Answers as clock;
 ghost use Rattle.playing.specs.Answers.{onOf, playedOf};
 ghost use Rattle.window.specs.Answers as window;
@@ -325,6 +327,25 @@ pub fn of_read(given: ParseAnswer) -> Read
                 head: of_head(head),
             }
         }
+    }
+}
+
+pub fn of_room(given: RoomAnswer) -> Room
+    ensures { λ r. ⌜ r ≡ rule.roomNumbers (roomAnswer given) ⌝ }
+{
+    match given {
+        RoomAnswer::Refused(r, at) => Room {
+            number: r.number(),
+            place: at as u64,
+            clips: 0,
+            tags: 0,
+        },
+        RoomAnswer::Given { clips, tags } => Room {
+            number: 0,
+            place: 0,
+            clips: clips as u64,
+            tags: tags as u64,
+        },
     }
 }
 

@@ -137,7 +137,7 @@ pub fn duration_title_tag(text: &[u8], at: usize) -> ExtinfRes
     match float(text, at) {
         LengthRes::Ok(duration, end) => {
             let title = scan::after_tag(text, end, b",");
-            let title_end = scan::until_three(text, title, b'\r', b'\n', b',');
+            let title_end = blocks::words_until_three(text, title, b'\r', b'\n', b',');
             if text.len() <= title_end {
                 return ExtinfRes::Fail(Why::MissingByte);
             }
@@ -183,7 +183,7 @@ pub fn extinf_end(text: &[u8], at: usize) -> ExtinfEnd
     let end = fraction_end(text, point);
     let too_many = (SIDE_DIGITS < point - at) | (SIDE_DIGITS + 1 < end - point);
     let title = scan::after_tag(text, end, b",");
-    let title_end = scan::until_three(text, title, b'\r', b'\n', b',');
+    let title_end = blocks::words_until_three(text, title, b'\r', b'\n', b',');
     if text.len() <= title_end {
         return ExtinfEnd::Fail;
     }

@@ -1,8 +1,8 @@
--- What `measured` answers, by what it knows at each exit: each refusal in its turn, and the length of a text that has room. Assumes nothing.
-use mathlib.Core.Path.{_≡_, ap, _∙_}
+-- What the writer answers, by what `may_write` knows at each exit: each refusal in its turn, and the length of a text that has room. Assumes nothing.
+use mathlib.Core.Path.{_≡_}
 use mathlib.Core.Bool.{true, false}
 use mathlib.Core.List.{List}
-use Prim.Native.Nat.{ℕ, _-_, _≤_, _<_}
+use Prim.Native.Nat.{ℕ, _≤_, _<_}
 use native.Mathlib.Omega.{arith}
 use lib.ListN.{length}
 use borrow.Author.Tests.{le-leb, lt-leb}
@@ -11,9 +11,9 @@ use Rattle.tables.specs.Layout.{textLimit}
 use Rattle.assembly.specs.Assembly.{Head}
 use Rattle.rule9.specs.Rule9.{keepsRule}
 use Rattle.playlist.specs.Calls.{writtenText, writeTo}
-use Rattle.measure.specs.Inside.Room.{left, short, roomFor}
+use Rattle.measure.specs.Inside.Room.{short, roomFor}
 use Rattle.measure.specs.Inside.Sizes.{wholeSize}
-use Rattle.measure.proofs.Rooms.{fits-room, short-room}
+use Rattle.measure.proofs.Rooms.{short-room}
 use Rattle.measure.proofs.Sizes.{whole-long}
 
 module _ (text : List ℕ) (h : Head) (clips : List ℕ) (n : ℕ) (tags : List ℕ) (m room : ℕ) where
@@ -33,10 +33,8 @@ module _ (text : List ℕ) (h : Head) (clips : List ℕ) (n : ℕ) (tags : List 
           let l : room < length (writtenText text h clips n tags m) = omega (arith, short-room room _ s, whole-long text h clips n tags m keeps) in
           rw (le-leb (length text) textLimit fits, keeps, lt-leb (length (writtenText text h clips n tags m)) room l)
 
-      pub has-room : (k : ℕ) → roomFor room (wholeSize h clips n tags) ≡ left k → writeTo text h clips n tags m room ≡ given (room - k)
+      pub has-room : wholeSize h clips n tags ≤ room → writeTo text h clips n tags m room ≡ given (length (writtenText text h clips n tags m))
       unfolding writeTo
-      has-room k s =
-          let w = whole-long text h clips n tags m keeps in
-          let f = fits-room room _ s in
-          let l : length (writtenText text h clips n tags m) ≤ room = omega (arith, f, w) in
-          rw (le-leb (length text) textLimit fits, keeps, le-leb (length (writtenText text h clips n tags m)) room l) (ap given (omega (arith, f, w)))
+      has-room f =
+          let l : length (writtenText text h clips n tags m) ≤ room = omega (arith, f, whole-long text h clips n tags m keeps) in
+          rw (le-leb (length text) textLimit fits, keeps, le-leb (length (writtenText text h clips n tags m)) room l)

@@ -9,7 +9,7 @@ use lib.Dec.{leb}
 use borrow.Author.Tests.{le-leb, lt-leb, leb-true, leb-false}
 use Rattle.tables.specs.Table.{listed}
 use Rattle.tables.proofs.Listed.{listed-left, listed-over}
-use Rattle.measure.specs.Inside.Room.{left, short, roomFor}
+use Rattle.measure.specs.Inside.Room.{Room, left, short, roomFor, Leaves}
 
 module _ (room n : ℕ) where
   pub room-fits : n ≤ room → roomFor room n ≡ left (room - n)
@@ -55,6 +55,18 @@ module _ (room a b : ℕ) where
 
   pub room-then-short : roomFor room a ≡ short → short ≡ roomFor room (a + b)
   room-then-short e = sym (room-short room (a + b) (omega (arith, short-room room a e)))
+
+-- ---- what is left at least: behind a piece that takes no more than `most`
+pub leaves-then : (room piece most n : ℕ) (r : Room) → piece ≤ most → most ≤ room → Leaves (room - most) n r → Leaves room (piece + n) r
+leaves-then room piece most n (left m) p l h = omega arith
+leaves-then room piece most n short p l h = tt
+
+pub leaves-exactly : (room n : ℕ) (r : Room) → r ≡ roomFor room n → Leaves room n r
+leaves-exactly room n (left m) e = omega (arith, fits-room room n (sym e))
+leaves-exactly room n short e = tt
+
+pub leaves-fits : (room n : ℕ) {r : Room} {m : ℕ} → Leaves room n r → r ≡ left m → n + m ≤ room
+leaves-fits room n {r} {m} h e = rw e at h
 
 -- ---- records one by one: what those from k on take of what is left is what all of them take of the room
 pub record Measuring {A : Type 0} (at : ℕ → A) (long : List A → ℕ) (room whole end rest k : ℕ) : Type 0 where

@@ -4,20 +4,21 @@ use mathlib.Core.Path.{_≡_, ap}
 use mathlib.Core.Bool.{Bool, true, false, not, _&&_}
 use mathlib.Core.List.{List}
 use mathlib.Core.Option.{Option, none, some}
-use Prim.Native.Nat.{ℕ, _≤_, _<_}
+use Prim.Native.Nat.{ℕ, _*_, _≤_, _<_}
 use native.Mathlib.Omega.{arith}
 use lib.Dec.{eqb}
 use lib.ListN.{length}
+use borrow.Author.Tests.{leb-true}
 use Rattle.text.specs.Nom.{span}
 use Rattle.text.specs.BasicTags.{PlaylistType, event, vod, other}
 use Rattle.tables.specs.Layout as layout
-use Rattle.tables.specs.Table.{clipWord, tagWord, hasFlag}
+use Rattle.tables.specs.Table.{fits, clipWord, tagWord, hasFlag}
 use Rattle.attributes.specs.ExtMap.{extMap}
 use Rattle.assembly.specs.Assembly.{Head, Clip}
 use Rattle.records.specs.Records.{optional, partAt, rangeAt, mapAt, clipAt, tagAt}
 use Rattle.rule9.specs.Rule9.{typeFits, keepsRule}
 use Rattle.rule9.proofs.Kept.{SpanKept, span-kept, rule-kept, clip-kept, tag-kept, run-within}
-use Rattle.measure.specs.Inside.Below.{PartBelow, TypeBelow, MapBelow, TagsBelow, ClipsBelow, RunsWithin}
+use Rattle.measure.specs.Inside.Below.{PartBelow, TypeBelow, MapBelow, TagsBelow, ClipsBelow, TableBelow, RunsWithin}
 
 module _ (text : List ℕ) (n : ℕ) (most : length text ≤ n) where
   -- a part and a map that are there only at times
@@ -64,9 +65,26 @@ module _ (text : List ℕ) (n : ℕ) (most : length text ≤ n) where
     pub runs-within : RunsWithin clips c m
     runs-within = run-within text h clips c tags m (rule-kept text h clips c tags m r)
 
-    -- all that measuring asks
+    pub table-below : TableBelow n clips c
+    table-below k l =
+        let kept = clip-kept text clips k (rule-kept text h clips c tags m r .clip k l) in
+        record {
+          uri = (kept .uri .ordered, omega (arith, kept .uri .within));
+          title = (kept .title .ordered, omega (arith, kept .title .within));
+          map-uri = (kept .map-uri .ordered, omega (arith, kept .map-uri .within));
+          length-below = kept .length-below;
+        }
+
+    pub table-held : c * layout.clipWords ≤ length clips
+    unfolding fits
+    table-held = leb-true (c * layout.clipWords) (length clips) (rule-kept text h clips c tags m r .clips-fit)
+
+    -- all that measuring asks, and all that its bound asks
     pub rule-below : TypeBelow n (h .type) × (RunsWithin clips c m × (TagsBelow n tags m × ClipsBelow n clips c))
     rule-below = (type-below, (runs-within, (tags-below, clips-below)))
+
+    pub rule-bound : TypeBelow n (h .type) × (c * layout.clipWords ≤ length clips × (TableBelow n clips c × (RunsWithin clips c m × TagsBelow n tags m)))
+    rule-bound = (type-below, (table-held, (table-below, (runs-within, tags-below))))
 
 -- the run of clip k, by its words
 pub clip-run : (clips : List ℕ) (k : ℕ) {c : Clip} → c ≡ clipAt clips k → (c .firstTag ≡ clipWord clips k layout.firstTag) × (c .tagCount ≡ clipWord clips k layout.tagCount)

@@ -28,7 +28,7 @@ fn room_for(room: usize, n: usize) -> Room
 }
 
 // After `count` unknown tags from tag `first` on.
-fn tags_room(tags: &[u64], first: usize, count: usize, room: usize) -> Room
+pub(crate) fn tags_room(tags: &[u64], first: usize, count: usize, room: usize) -> Room
     requires { ⌜ first + count < 2 ^ 64 ⌝ }
     requires { ⌜ TagsBelow textLimit (now tags) (first + count) ⌝ }
     ensures { λ r. ⌜ roomOf r ≡ roomFor room (tagsSize (listed (tagAt (now (tags .entry))) first count)) ⌝ }

@@ -56,7 +56,7 @@ const MAP_RANGE: usize = 13; // ,BYTERANGE=, two quote marks
 
 const RANGE_LINE: usize = 18; // #EXT-X-BYTERANGE:, LF
 
-const DISCONTINUITY_LINE: usize = 21; // #EXT-X-DISCONTINUITY, LF
+pub(crate) const DISCONTINUITY_LINE: usize = 21; // #EXT-X-DISCONTINUITY, LF
 
 const TAG_LINE: usize = 6; // #EXT-, LF
 

@@ -62,24 +62,24 @@ module _ (step : Parser Taken) (text : List ℕ) where
   pub weighed-refused : {ρ : Refusal} {p : ℕ} → weighed text ≡ refused ρ p → Passed (refused ρ p)
   weighed-refused {ρ} {p} k = front-text text .refuses _ _ (given-refuses _ _) ρ p k
 
-  abbrev Fine : Type 0
+  abbrev pub Fine : Type 0
   Fine = (admitted text ≡ given tt) × ((verdictOf text ≡ media) × NoneMet (stepsBy step text))
 
-  front-weighed : Front (λ A x. andThen (admitted text) (unlessMaster (verdictOf text) (unlessMet (stepsBy step text) x))) Fine
+  pub front-weighed : Front (λ A x. andThen (admitted text) (unlessMaster (verdictOf text) (unlessMet (stepsBy step text) x))) Fine
   front-weighed = front-then _ _ (front-admitted (admitted text)) (front-then _ _ (front-media (verdictOf text)) (front-met (stepsBy step text)))
 
-  abbrev last : State
+  abbrev pub last : State
   last = lastOf begin (stepsBy step text)
 
   module _ {h : Head} {made kept n : ℕ} (k : Passed (given (read h made kept n))) where
-    weighed-read : Fine × (_≡_ {A = Answer Read} (given (readFrom last (stopBy step text))) (given (read h made kept n)))
+    pub weighed-read : Fine × (_≡_ {A = Answer Read} (given (readFrom last (stopBy step text))) (given (read h made kept n)))
     unfolding firstPass
     weighed-read = front-weighed .passed _ _ k
 
-    weighed-clips : clipCount last ≡ made
+    pub weighed-clips : clipCount last ≡ made
     weighed-clips = let e = weighed-read .1 in cc
 
-    weighed-tags : keptTags last ≡ kept
+    pub weighed-tags : keptTags last ≡ kept
     weighed-tags = let e = weighed-read .1 in cc
 
     -- 7 and 8 are left

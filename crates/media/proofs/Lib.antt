@@ -14,3 +14,5 @@ pub mod Only
 pub mod ThrownOut
 -- tables of the most records are never too short
 pub mod Most
+-- what the call for the room answers, and that the reader needs just that
+pub mod Rooms

@@ -113,11 +113,11 @@ module _ (step : Parser Taken) (least : Least step) (text : List ℕ) where
       omega (arith, met, first-behind, kept-met (lastOf begin (stepsBy step text)))
 
 -- ---- the refusals before the tables' are 1 to 6
-abbrev Early : {A : Type 0} → Answer A → Type 0
+abbrev pub Early : {A : Type 0} → Answer A → Type 0
 Early x = answerNumber x < 7
 
 module _ {A : Type 0} (y : Answer A) where
-  early-admitted : (text : List ℕ) → (length text ≤ textLimit → Early y) → Early (andThen (admitted text) y)
+  pub early-admitted : (text : List ℕ) → (length text ≤ textLimit → Early y) → Early (andThen (admitted text) y)
   unfolding admitted
   early-admitted text k = go (leb (length text) textLimit) (eqb (utf8End text 0) (length text)) (tagged header text 0) refl
     where
@@ -129,7 +129,7 @@ module _ {A : Type 0} (y : Answer A) where
       go true true true q = k (leb-true (length text) textLimit q)
 
   module _ (early : Early y) where
-    early-media : (v : Verdict) → Early (unlessMaster v y)
+    pub early-media : (v : Verdict) → Early (unlessMaster v y)
     early-media (master hash) = omega arith
     early-media media = early
 
@@ -146,7 +146,7 @@ module _ {A : Type 0} (y : Answer A) where
     early-tag (uri u) at = early
     early-tag (leftOut t) at = omega arith
 
-early-met : {A : Type 0} (y : Answer A) → Early y → (ts : List Taken) → Early (unlessMet ts y)
+pub early-met : {A : Type 0} (y : Answer A) → Early y → (ts : List Taken) → Early (unlessMet ts y)
 unfolding unlessMet
 early-met y early [] = early
 early-met y early (took at t ∷ ts) = early-tag (unlessMet ts y) (early-met y early ts) t at

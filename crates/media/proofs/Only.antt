@@ -1,19 +1,22 @@
--- No second result of `parse_media_playlist` fits, nor of any call that says as much: an answer by what it says (its view is one-to-one), and each table by its equation.
+-- No second result of `parse_media_playlist` fits, nor of any call that says as much, nor of `room`: an answer by what it says (its view is one-to-one), and
+-- each table by its equation.
 -- Assumes nothing.
-use mathlib.Core.Path.{_≡_, sym, _∙_, ap}
+use mathlib.Core.Path.{_≡_, refl, sym, _∙_, ap}
 use Prim.Native.Nat.{ℕ}
 use mathlib.Core.List.{List}
 use Rattle.text.specs.BasicTags.{ExtTag}
 use Rattle.text.proofs.Only.{Only, only-by}
-use Rattle.tables.specs.Refusal.{Answer}
+use Rattle.tables.specs.Refusal.{Answer, refused, given}
 use Rattle.tables.specs.Answers.{refusalOf}
 use Rattle.tables.proofs.Refusals.{named, named-back}
 use Rattle.assembly.specs.Assembly.{Clip}
 use Rattle.assembly.proofs.Only.{head-only}
 use Rattle.media.specs.declared.ParseAnswer.{ParseAnswer}
 use Rattle.media.specs.declared.ParseAnswer.the-variants as parseᵛ
-use Rattle.media.specs.Calls.{Read, ReadingAs}
-use Rattle.media.specs.Answers.{readSeen, parseAnswer}
+use Rattle.media.specs.declared.RoomAnswer.{RoomAnswer}
+use Rattle.media.specs.declared.RoomAnswer.the-variants as roomᵛ
+use Rattle.media.specs.Calls.{Read, Room, room, ReadingAs}
+use Rattle.media.specs.Answers.{readSeen, parseAnswer, roomAnswer}
 
 -- ---- the answer
 read-only : Only readSeen
@@ -32,6 +35,18 @@ parse-only (parseᵛ.Refused r p) (parseᵛ.Refused q n) e = let z = refusal-onl
 parse-only (parseᵛ.Refused r p) (parseᵛ.Given b) e = cc
 parse-only (parseᵛ.Given a) (parseᵛ.Refused q n) e = cc
 parse-only (parseᵛ.Given a) (parseᵛ.Given b) e = ap parseᵛ.Given (read-only a b (cc))
+
+-- `room`
+abbrev roomBack : Answer Room → RoomAnswer
+roomBack (refused r p) = roomᵛ.Refused (named r) p
+roomBack (given (room clips tags)) = roomᵛ.Given clips tags
+
+room-back : (a : RoomAnswer) → roomBack (roomAnswer a) ≡ a
+room-back (roomᵛ.Refused r p) = rw (named-back r)
+room-back (roomᵛ.Given clips tags) = refl
+
+pub room-only : Only roomAnswer
+room-only = only-by roomAnswer roomBack room-back
 
 -- ---- two results at the same text and the same tables, whose answer, clips and tags are so the same
 module _ {a : Answer Read} {cs : List Clip} {gs : List ExtTag} {clips₀ tags₀ clips clips′ tags tags′ : List ℕ} {r r′ : ParseAnswer} (p : ReadingAs parseAnswer a cs gs clips₀ tags₀ clips tags r) (q : ReadingAs parseAnswer a cs gs clips₀ tags₀ clips′ tags′ r′) where

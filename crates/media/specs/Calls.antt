@@ -1,4 +1,5 @@
--- The public call `parse_media_playlist`: "Reader: 1, 2, 3, 4, then 5 or 6 whichever the reading meets first, 7, 8." Assumes nothing.
+-- The public call `parse_media_playlist`: "Reader: 1, 2, 3, 4, then 5 or 6 whichever the reading meets first, 7, 8." And `room`, which says how many records
+-- the reader needs room for, with its refusals but 7 and 8. Assumes nothing.
 use Prim.Native.Nat.{ℕ, _*_}
 use mathlib.Core.Path.{_≡_}
 use mathlib.Core.List.{List, [], _∷_}
@@ -85,6 +86,21 @@ answerOf text steps n clipRoom tagRoom =
     (unlessShort (lastOf begin steps) clipRoom tagRoom
     (given (readFrom (lastOf begin steps) n)))))
 
+-- ---- how much room a reading needs: how many clips, how many kept tags
+pub data Room : Type 0 where
+  room : ℕ → ℕ → Room
+
+abbrev pub roomFrom : State → Room
+roomFrom s = room (clipCount s) (keptTags s)
+
+-- what the same steps come to before 7 and 8 are weighed
+abbrev pub roomOf : List ℕ → List Taken → Answer Room
+roomOf text steps =
+    andThen (admitted text)
+    (unlessMaster (verdictOf text)
+    (unlessMet steps
+    (given (roomFrom (lastOf begin steps)))))
+
 abbrev pub keptOf : List Taken → List ExtTag
 keptOf steps = take (keptTags (lastOf begin steps)) (tagsOf steps)
 
@@ -97,6 +113,9 @@ stopOf text = stopBy tags.step text
 
 unfoldable pub parseMediaPlaylist : List ℕ → ℕ → ℕ → Answer Read
 parseMediaPlaylist text clipRoom tagRoom = answerOf text (stepsOf text) (stopOf text) clipRoom tagRoom
+
+unfoldable pub roomFor : List ℕ → Answer Room
+roomFor text = roomOf text (stepsOf text)
 
 unfoldable pub clipsRead : List ℕ → List Clip
 clipsRead text = clipsOf begin (stepsOf text)
@@ -117,6 +136,9 @@ ParsedAs view text clips₀ tags₀ clips tags r = ReadingAs view (parseMediaPla
 module _ (step : Parser Taken) where
   abbrev pub answerBy : List ℕ → ℕ → ℕ → Answer Read
   answerBy text clipRoom tagRoom = answerOf text (stepsBy step text) (stopBy step text) clipRoom tagRoom
+
+  abbrev pub roomBy : List ℕ → Answer Room
+  roomBy text = roomOf text (stepsBy step text)
 
   abbrev pub ParsedBy : {R : Type 0} → (R → Answer Read) → List ℕ → List ℕ → List ℕ → List ℕ → List ℕ → R → Type 0
   ParsedBy view text clips₀ tags₀ clips tags r =

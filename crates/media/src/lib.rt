@@ -9,7 +9,7 @@ use verdict::lines::Verdict;
 ghost use mathlib.Core.Path.{_≡_};
 ghost use Rattle.verdict.specs.Answers.{admission};
 ghost use Rattle.media.specs.Calls as rule;
-ghost use Rattle.media.specs.Answers.{parseAnswer};
+ghost use Rattle.media.specs.Answers.{parseAnswer, roomAnswer};
 ghost use Rattle.media.specs.Inside.Passes.{weighed};
 
 pub mod state; // where a reading is and what it has counted
@@ -63,5 +63,29 @@ pub fn parse_media_playlist(text: &[u8], clips: &mut [u64], tags: &mut [u64]) ->
             reading::fill(text, at, clips, tags, last.tags);
             ParseAnswer::Given(last)
         }
+    }
+}
+
+// How much room a reading needs: so many clips and kept unknown tags there are.
+pub enum RoomAnswer {
+    Refused(Refusal, usize),
+    Given { clips: usize, tags: usize },
+}
+
+// The reader's first pass alone, so that a caller can lend tables of just so many records. Refusals 1, 2, 3, 4, then 5 or 6 whichever the reading meets first.
+pub fn room(text: &[u8]) -> RoomAnswer
+    ensures { λ r. ⌜ roomAnswer r ≡ rule.roomFor (now (text .entry)) ⌝ }
+{
+    match weigh(text) {
+        Admission::Refused(r, place) => return RoomAnswer::Refused(r, place),
+        Admission::Admitted => {}
+    }
+    let at = reading::first_step(text);
+    match reading::count(text, at) {
+        Counted::Refused(r, place) => RoomAnswer::Refused(r, place),
+        Counted::Read(last) => RoomAnswer::Given {
+            clips: last.clips,
+            tags: last.tags,
+        },
     }
 }

@@ -4,6 +4,7 @@ use crate::state::Counts;
 use crate::state::State;
 use assembly::head::Head;
 use assembly::words;
+use chains::ext_map::MAP_MEMORY;
 use leaves::basic_tags::ExtTag;
 use steps::common;
 use steps::common::Line;
@@ -19,6 +20,7 @@ ghost use mathlib.Core.Option.{none};
 ghost use Prim.Native.Nat.{_+_, _<_, _^_};
 ghost use Rattle.text.specs.Answers.{spanOf};
 ghost use Rattle.leaves.specs.Answers.{extTagOf};
+ghost use Rattle.chains.specs.Inside.Kept.{RemembersMaps};
 ghost use Rattle.tags.specs.Tags.{unknown, uri, step};
 ghost use Rattle.tags.specs.Answers.{tagOf};
 ghost use Rattle.media.specs.Calls.{firstStep};
@@ -53,10 +55,12 @@ fn counted_on(t: Tag, next: Counts) -> CountStep
 }
 
 impl Counts {
-    // One step of the first pass: a tag, and the blanks after it.
-    pub(crate) fn step(self, text: &[u8]) -> CountStep
+    // One step of the first pass: a tag, and the blanks after it. The memory is of the MAP lists that were read before.
+    pub(crate) fn step(self, text: &[u8], memory: &mut [u64]) -> CountStep
         requires { ⌜ rule.Counting self ⌝ }
+        requires { ⌜ RemembersMaps (now text) (now memory) ⌝ }
         ensures { λ r. ⌜ rule.countSays step r self (now (text .entry)) ⌝ }
+        ensures { λ _. ⌜ RemembersMaps (now (text .entry)) (now (memory .exit)) ⌝ }
     {
         let mut c = self;
         match common::common_end(text, c.at) {
@@ -71,7 +75,7 @@ impl Counts {
                 c.at = blocks::multispace0(text, after);
                 CountStep::Next(c)
             }
-            LineEnd::Other => match steps::media_playlist_tag(text, c.at) {
+            LineEnd::Other => match steps::media_playlist_tag(text, c.at, memory) {
                 TagRes::Fail(_) => CountStep::Stop,
                 TagRes::Ok(t, after) => {
                     let next = blocks::multispace0(text, after);
@@ -94,8 +98,9 @@ pub(crate) fn count(text: &[u8], at: usize) -> Counted
 {
     let mut c = Counts::new(at);
     let mut head = Head::empty();
+    let mut memory = [0; MAP_MEMORY]; // no list was read yet
     loop {
-        match c.step(text) {
+        match c.step(text, &mut memory) {
             CountStep::Stop => {
                 return Counted::Read(c.read(head));
             }
@@ -155,10 +160,19 @@ impl State {
         }
     }
 
-    // One step of the second pass: a tag, and the blanks after it. What the tag adds to the tables is stored.
-    fn step(self, text: &[u8], clips: &mut [u64], tags: &mut [u64], kept: usize) -> Step
+    // One step of the second pass: a tag, and the blanks after it. What the tag adds to the tables is stored. The memory is as in the first pass.
+    fn step(
+        self,
+        text: &[u8],
+        clips: &mut [u64],
+        tags: &mut [u64],
+        kept: usize,
+        memory: &mut [u64],
+    ) -> Step
         requires { ⌜ rule.Counting (self .counts) ⌝ }
+        requires { ⌜ RemembersMaps (now text) (now memory) ⌝ }
         ensures { λ r. ⌜ rule.stepSays step r self (now (text .entry)) kept (now (clips .entry)) (now (tags .entry)) (now (clips .exit)) (now (tags .exit)) ⌝ }
+        ensures { λ _. ⌜ RemembersMaps (now (text .entry)) (now (memory .exit)) ⌝ }
     {
         let at = self.counts.at;
         match common::common_line(text, at) {
@@ -171,7 +185,7 @@ impl State {
                 let next = blocks::multispace0(text, after);
                 Step::Next(self.after_extinf(e, next))
             }
-            Line::Other => match steps::media_playlist_tag(text, at) {
+            Line::Other => match steps::media_playlist_tag(text, at, memory) {
                 TagRes::Fail(_) => Step::Stop,
                 TagRes::Ok(t, after) => {
                     self.put(clips, tags, t, kept);
@@ -190,8 +204,9 @@ pub(crate) fn fill(text: &[u8], at: usize, clips: &mut [u64], tags: &mut [u64], 
     ensures { λ _. ⌜ rule.Filled step (now (text .entry)) kept (now (clips .entry)) (now (tags .entry)) (now (clips .exit)) (now (tags .exit)) ⌝ }
 {
     let mut s = State::new(at);
+    let mut memory = [0; MAP_MEMORY];
     loop {
-        match s.step(text, clips, tags, kept) {
+        match s.step(text, clips, tags, kept, &mut memory) {
             Step::Stop => {
                 return;
             }

@@ -28,6 +28,25 @@ pub fn verdict(
     State { input, waits }
 }
 
+pub fn room(
+    s: State,
+    from: &mut [u8; input::ROOM],
+    to: &mut [u8; output::ROOM],
+    text: &mut [u8],
+) -> State {
+    let waits = s.waits;
+    let bytes = input::bytes(s.input, STDIN_FILENO, from, text);
+    let length = bytes.count;
+    let input = bytes.rest;
+    let stop = input.stop;
+    if stop.happened() {
+        return State { input, waits };
+    }
+    let given = ledgerfern::ledgerfern_room(&text[0..length]);
+    let waits = lines::room(to, waits, given);
+    State { input, waits }
+}
+
 // The tables are printed as the call leaves them.
 fn read_and_print(
     to: &mut [u8; output::ROOM],

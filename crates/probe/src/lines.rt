@@ -5,6 +5,7 @@ use ledgerfern::Head;
 use ledgerfern::On;
 use ledgerfern::Playing;
 use ledgerfern::Read;
+use ledgerfern::Room;
 use ledgerfern::Starts;
 use ledgerfern::Value;
 use ledgerfern::Verdict;
@@ -69,6 +70,11 @@ fn answer(
 
 pub fn verdict(to: &mut [u8; ROOM], waits: Waits, r: Verdict) -> Waits {
     let waits = answer(to, waits, 1, r.number, r.place, &[r.master]);
+    end_line(to, waits)
+}
+
+pub fn room(to: &mut [u8; ROOM], waits: Waits, r: Room) -> Waits {
+    let waits = answer(to, waits, 15, r.number, r.place, &[r.clips, r.tags]);
     end_line(to, waits)
 }
 

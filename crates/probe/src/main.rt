@@ -12,6 +12,7 @@
 //  10 cue reader          file, clip
 //  13 since and left      as 8
 //  14 all starts          number of clips, clip words, rate, turn, words of the table of starts
+//  15 room for a text     text
 //  28 start in ns         number of clips, clip words, clip
 //  29 all windows         text, number of clips, clip words, words of the table of windows
 // A number has eight bytes, the lowest first; a text or words are their count, a number, and then so many bytes or numbers.
@@ -72,6 +73,7 @@ fn call(
         9 => calls::cue_writer(s, from, to, text, clips, out),
         10 => calls::cue_reader(s, from, to, text),
         14 => calls::starts(s, from, to, clips, tags),
+        15 => calls::room(s, from, to, text),
         29 => calls::windows(s, from, to, text, clips, tags),
         _ => return Step::Last(lines::text(to, waits, b"unknown op\n")),
     };

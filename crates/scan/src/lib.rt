@@ -150,7 +150,8 @@ pub fn while_any(text: &[u8], at: usize, set: &[u8]) -> usize
     i
 }
 
-fn is_one_of_four(a: u8, b: u8, c: u8, d: u8, x: u8) -> bool
+// Whether `x` is one of four bytes.
+pub fn is_one_of_four(a: u8, b: u8, c: u8, d: u8, x: u8) -> bool
     ensures { λ r. ⌜ r ≡ isOneOf (a ∷ b ∷ c ∷ d ∷ []) x ⌝ }
 {
     if a == x {
@@ -166,7 +167,7 @@ fn is_one_of_four(a: u8, b: u8, c: u8, d: u8, x: u8) -> bool
 }
 
 // `until_any` for a set of four bytes, which are tested in place: the reading spends its time in such scans.
-fn until_four(text: &[u8], at: usize, a: u8, b: u8, c: u8, d: u8) -> usize
+pub fn until_four(text: &[u8], at: usize, a: u8, b: u8, c: u8, d: u8) -> usize
     ensures { λ r. ⌜ r ≡ runEnd (isNoneOf (a ∷ b ∷ c ∷ d ∷ [])) (now (text .entry)) at ⌝ }
 {
     let mut i = at;

@@ -1,5 +1,7 @@
 -- the three questions: prefixes, runs, digits
 pub mod Laws
+-- stretches of places
+pub mod Stretches
 -- a rule again and again
 pub mod Many
 -- a way through alternatives

@@ -1,5 +1,5 @@
 // UTF-8 as RFC 3629, section 4, lays it out: a function for each of its names and a line for each of its rows, in its order.
-// Each takes any text and any place. The fast way past ASCII stands apart, in `blocks`.
+// Each takes any text and any place. The fast ways stand apart: past ASCII in `blocks`, past any alphabet in `characters`.
 ghost use mathlib.Core.Path.{_≡_};
 ghost use Prim.Native.Nat.{_+_};
 ghost use Rattle.text.specs.Utf8 as rule;
@@ -101,12 +101,28 @@ pub fn utf8_char(text: &[u8], at: usize) -> usize
     0
 }
 
+// Past the first characters, up to where as many bytes stand before as `characters` looks back.
+fn first_end(text: &[u8]) -> usize
+    ensures { λ r. ⌜ rule.utf8End (now (text .entry)) 0 ≡ rule.utf8End (now (text .entry)) r ⌝ }
+{
+    let mut end = 0;
+    while end < characters::BEFORE {
+        let n = utf8_char(text, end);
+        if n == 0 {
+            return end;
+        }
+        end += n;
+    }
+    end
+}
+
 // UTF8-octets = *( UTF8-char )
-// The text's length where it is UTF-8, else the first byte of the first ill-formed sequence. A run of UTF8-1 is passed at once.
+// The text's length where it is UTF-8, else the first byte of the first ill-formed sequence. Blocks of characters are passed at once, and then runs of UTF8-1: so
+// character by character goes only what is too short for a block, or the block that is ill-formed.
 pub fn utf8_end(text: &[u8]) -> usize
     ensures { λ r. ⌜ r ≡ rule.utf8End (now (text .entry)) 0 ⌝ }
 {
-    let mut i = blocks::ascii_end(text, 0);
+    let mut i = characters::blocks_end(text, first_end(text));
     while i < text.len() {
         let n = utf8_char(text, i);
         if n == 0 {

@@ -6,5 +6,7 @@ pub mod Letters
 pub mod Takes
 -- the verdict, line by line
 pub mod FirstSaid
+-- .. and byte by byte, where nothing is said
+pub mod Passed
 -- no second result fits
 pub mod Only

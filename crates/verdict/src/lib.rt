@@ -7,6 +7,7 @@ ghost use Rattle.verdict.specs.Calls as rule;
 ghost use Rattle.verdict.specs.Answers.{admission, masterAnswer, verdictSeen};
 
 pub mod lines; // line by line, until one tells
+mod quiet; // lines that say nothing
 
 pub enum Admission {
     Refused(Refusal, usize),

@@ -1,4 +1,5 @@
 // Line by line, until a tag tells.
+use crate::quiet;
 use leaves::util;
 use text::SpanRes;
 use text::Why;
@@ -67,7 +68,7 @@ fn group_tag(text: &[u8], at: usize) -> KindRes
     let name = b"#EXT-X-MEDIA";
     if scan::starts_with(text, at, name) {
         let after = at + name.len();
-        let dash = scan::until_one(text, after, b'-');
+        let dash = blocks::find_one(text, after, b'-');
         if after < dash {
             return KindRes::Ok(true, dash);
         }
@@ -194,7 +195,7 @@ pub fn is_master_playlist_tag_line(text: &[u8], at: usize) -> LineRes
     if text.len() <= at {
         return LineRes::Fail(Why::MissingByte);
     }
-    let hash = scan::while_any(text, at, b"\r\n");
+    let hash = blocks::while_two(text, at, b'\r', b'\n');
     match tag_kind(text, hash) {
         KindRes::Ok(kind, after) => with_rest(text, after, Says::Decides(kind, hash)),
         KindRes::Fail(_) => with_rest(text, hash, Says::Nothing),
@@ -212,7 +213,8 @@ pub fn verdict_from(text: &[u8], at: usize) -> Verdict
 {
     let mut at = at;
     loop {
-        match is_master_playlist_tag_line(text, at) {
+        let line = quiet::quiet_end(text, at);
+        match is_master_playlist_tag_line(text, line) {
             LineRes::Fail(_) => {
                 return Verdict::Media;
             }

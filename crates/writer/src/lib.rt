@@ -1,6 +1,7 @@
-// Writing a media playlist (playlist.rs, `MediaPlaylist::write_to`) into a lent output: head, clips and end, line by line. The text is measured before a byte is
-// written, so that a refused call has touched nothing.
+// Writing a media playlist (playlist.rs, `MediaPlaylist::write_to`) into a lent output: head, clips and end, line by line. Whether the text may be written is
+// known before a byte is, so that a refused call has touched nothing.
 use assembly::head::Head;
+use measure::Leave;
 use playlist::WriteAnswer;
 ghost use Prim.Native.Nat.{_≤_};
 ghost use lib.ListN.{length};
@@ -26,8 +27,7 @@ fn clip_lines(
     let mut to = at;
     let mut k = 0;
     while k < clip_count {
-        let c = records::clip_at(clips, k);
-        let n = cliplines::clip(&mut out[to..], text, tags, tag_count, c);
+        let n = cliplines::clip_of(&mut out[to..], text, clips, k, tags, tag_count);
         to += n;
         k += 1;
     }
@@ -63,9 +63,9 @@ pub fn write_to(
 ) -> WriteAnswer
     ensures { λ r. ⌜ WrittenAs (now (text .entry)) (headSeen head) (now (clips .entry)) «clip_count» (now (tags .entry)) «tag_count» writeAnswer (now (out .entry)) (now (out .exit)) r ⌝ }
 {
-    match measure::measured(text, head, clips, clip_count, tags, tag_count, out.len()) {
-        WriteAnswer::Refused(r) => WriteAnswer::Refused(r),
-        WriteAnswer::Written(_) => {
+    match measure::may_write(text, head, clips, clip_count, tags, tag_count, out.len()) {
+        Leave::Refused(r) => WriteAnswer::Refused(r),
+        Leave::Granted => {
             let length = whole(out, text, head, clips, clip_count, tags, tag_count);
             WriteAnswer::Written(length)
         }

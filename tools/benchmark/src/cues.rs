@@ -1,7 +1,7 @@
 //! The cue file of the largest list, by the library and by plain C that checks nothing (plain.c).
 
 use crate::layout::{CLIP_WORDS, LENGTH, TEXT_LIMIT, URI_END, URI_START};
-use crate::ledgerfern::{self, Cue};
+use crate::lent::{self, Cue};
 
 extern "C" {
     fn plain_cue_write(text: *const u8, count: usize, clips: *const u64, output: *mut u8) -> usize;
@@ -38,7 +38,7 @@ impl List {
 
     /// The library judges text, table, total, widths and room, and then writes.
     pub fn write(&self, output: &mut [u8]) -> u64 {
-        let written = ledgerfern::cue_write(&self.text, CLIPS, &self.clips, output);
+        let written = lent::cue_write(&self.text, CLIPS, &self.clips, output);
         assert_eq!((written.number, written.length), (0, FILE as u64));
         written.length
     }
@@ -52,7 +52,7 @@ impl List {
 
 /// The library judges the whole file, and then finds the last clip.
 pub fn last(file: &[u8]) -> Cue {
-    ledgerfern::cue_read(file, CLIPS - 1)
+    lent::cue_read(file, CLIPS - 1)
 }
 
 /// Plain C finds it.

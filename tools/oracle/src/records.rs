@@ -1,8 +1,9 @@
-//! The probe's records in, the probe's lines out, for its ops 1, 2 and 3.
+//! The probe's records in, the probe's lines out, for its ops 1, 2, 3 and 15.
 
 use crate::reading::{read, verdict, Reading, Refusal, CLIP_WORDS, TAG_WORDS};
 use crate::same;
 use crate::writing::{write_line, Asked};
+use crate::parse_media_playlist;
 use std::io::{stdin, stdout, BufReader, BufWriter, ErrorKind, Read, Write};
 
 const MOST_BYTES: u64 = 140_000;
@@ -34,6 +35,7 @@ fn answer(input: &mut impl Read) -> Result<String, End> {
         1 => Ok(verdict_line(&bytes(input)?)),
         2 => Ok(read_line(&bytes(input)?, words(input)?, words(input)?)),
         3 => Ok(write_line(asked(input)?)),
+        15 => Ok(room_line(&bytes(input)?)),
         _ => Err("unknown op"),
     }
 }
@@ -91,6 +93,17 @@ fn read_line(text: &[u8], mut clips: Vec<u64>, mut tags: Vec<u64>) -> String {
     append(" |", &clips);
     append(" |", &tags);
     line
+}
+
+/// How many segments the crate's public call returns, and how many unknown tags these have together; refusals 1 to 6 are the
+/// reading's.
+fn room_line(text: &[u8]) -> String {
+    if let Err(Refusal { number, place }) = read(text) {
+        return format!("15 {} {} 0 0", number, place);
+    }
+    let (_, list) = parse_media_playlist(text).expect("the text begins #EXTM3U");
+    let tags: usize = list.segments.iter().map(|segment| segment.unknown_tags.len()).sum();
+    format!("15 0 0 {} {}", list.segments.len(), tags)
 }
 
 /// Refusals 7 and 8, on a reading that the crate's public call confirms.

@@ -1,11 +1,12 @@
--- `scan::block_one_of`: as long as the answer is yes, the bytes that were looked at are of the set. Assumes nothing.
+-- `blocks::block_one_of`: as long as the answer is yes, the bytes that were looked at are of the set. Assumes nothing.
 use native.Mathlib.Omega.{arith}
 use Prim.Native.Nat.{_+_, _-_}
 use mathlib.Core.Path.{_≡_}
 use mathlib.Core.Bool.{true}
 use mathlib.Core.List.{[], _∷_}
 use Rattle.text.specs.Nom.{isOneOf}
-use Rattle.blocks.proofs.Blocks.{All, Passes, one-of-on}
+use Rattle.text.proofs.Stretches.{All, Passes}
+use Rattle.blocks.proofs.Blocks.{one-of-on}
 use Rattle.blocks.proofs.block_one_of.Statement.{statement}
 use Rattle.blocks.proofs.block_one_of.Tie as tie
 

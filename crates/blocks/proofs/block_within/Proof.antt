@@ -1,9 +1,10 @@
--- `scan::block_within`: as long as the answer is yes, the bytes that were looked at are within the bounds. Assumes nothing.
+-- `blocks::block_within`: as long as the answer is yes, the bytes that were looked at are within the bounds. Assumes nothing.
 use native.Mathlib.Omega.{arith}
 use Prim.Native.Nat.{_+_, _-_}
 use mathlib.Core.Path.{_≡_}
 use mathlib.Core.Bool.{true}
-use Rattle.blocks.proofs.Blocks.{All, Within, within-on}
+use Rattle.text.proofs.Stretches.{All}
+use Rattle.blocks.proofs.Blocks.{Within, within-on}
 use Rattle.blocks.proofs.block_within.Statement.{statement}
 use Rattle.blocks.proofs.block_within.Tie as tie
 

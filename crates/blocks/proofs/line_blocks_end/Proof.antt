@@ -1,4 +1,4 @@
--- `scan::line_blocks_end`: what `within_end` passes is neither CR nor LF. Assumes nothing.
+-- `blocks::line_blocks_end`: what `within_end` passes is neither CR nor LF. Assumes nothing.
 use borrow.Author.Needs.{needs}
 use Rattle.blocks.proofs.Blocks.{line-on}
 use Rattle.blocks.proofs.line_blocks_end.Statement.{statement}

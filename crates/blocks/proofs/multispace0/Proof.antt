@@ -1,4 +1,4 @@
--- `scan::multispace0`: nothing is there, or no blank; else the run goes on past the blocks. Assumes nothing.
+-- `blocks::multispace0`: nothing is there, or no blank; else the run goes on past the blocks. Assumes nothing.
 use native.Mathlib.Omega.{arith}
 use borrow.Author.Needs.{needs}
 use mathlib.Core.Path.{sym, _∙_}
@@ -16,14 +16,14 @@ shared-slice-read-if2 c = omega arith
 returns-2 : tie.Need-returns-2
 returns-2 c = sym (run-stop isMultispace _ _ (c .before .before .if1 .left) (above-blank _ (c .if2 .taken)))
 
-blank-blocks-end-requires : tie.Need-blank-blocks-end-requires
-blank-blocks-end-requires c κs = search needs
+one-of-end-requires : tie.Need-one-of-end-requires
+one-of-end-requires c κs = search needs
 
 while-four-requires : tie.Need-while-four-requires
 while-four-requires c κs = search needs
 
 returns-3 : tie.Need-returns-3
-returns-3 c = c .while-four .ensures ∙ sym (c .before .blank-blocks-end .ensures)
+returns-3 c = c .while-four .ensures ∙ sym (c .before .one-of-end .ensures)
 
 pub multispace0-spec : {M : Type 1} → statement M
-multispace0-spec = tie.close (tie.spec returns shared-slice-read-if2 returns-2 blank-blocks-end-requires while-four-requires returns-3)
+multispace0-spec = tie.close (tie.spec returns shared-slice-read-if2 returns-2 one-of-end-requires while-four-requires returns-3)

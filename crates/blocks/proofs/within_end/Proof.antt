@@ -1,9 +1,10 @@
--- `scan::within_end`: the bytes passed are there, and within the bounds. Assumes nothing.
+-- `blocks::within_end`: the bytes passed are there, and within the bounds. Assumes nothing.
 use native.Mathlib.Omega.{arith}
 use native.Mathlib.Nat.{le-refl}
 use Prim.Native.Nat.{_-_, _≤_}
 use lib.ListN.{length}
-use Rattle.blocks.proofs.Blocks.{All, There, join}
+use Rattle.text.proofs.Stretches.{All, join}
+use Rattle.blocks.proofs.Blocks.{There}
 use Rattle.blocks.proofs.within_end.Statement.{statement}
 use Rattle.blocks.proofs.within_end.Tie as tie
 

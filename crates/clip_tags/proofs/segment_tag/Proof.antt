@@ -14,11 +14,23 @@ enum-told c = search needs
 enum-told-2 : tie.Need-enum-told-2
 enum-told-2 c = search needs
 
+same-length : tie.Need-same-length
+same-length c = search needs
+
+same-length-2 : tie.Need-same-length-2
+same-length-2 c = search needs
+
 returns : tie.Need-returns
-returns c = untold-held _ (c .before .before .tried-tag .ensures) (segment-matched _ _) (c .enum-told .given .1)
+returns c kept =
+    let tried = c .before .before .before .before .tried-tag .ensures kept in
+    (untold-held _ (tried .0) (segment-matched _ _) (c .enum-told .given .1), tried .1)
 
 returns-2 : tie.Need-returns-2
-returns-2 c = untold-failed _ (c .before .before .tried-tag .ensures) (segment-matched _ _) (c .enum-told2 .given .1)
+returns-2 c kept =
+    let tried = c .before .before .before .before .tried-tag .ensures kept in
+    (untold-failed _ (tried .0) (segment-matched _ _) (c .enum-told2 .given .1), tried .1)
 
 pub segment-tag-spec : {M : Type 1} → statement M
-segment-tag-spec = tie.close (tie.spec tried-tag-requires enum-told enum-told-2 returns returns-2)
+segment-tag-spec =
+    tie.close
+    (tie.spec tried-tag-requires enum-told enum-told-2 same-length returns same-length-2 returns-2)

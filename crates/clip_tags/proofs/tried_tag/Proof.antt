@@ -1,4 +1,5 @@
--- `tried_tag`: the tags of the letter that stands at place 7 have the answer (`by-byte`); where no tag has that letter, none (`no-byte`). Assumes nothing.
+-- `tried_tag`: the tags of the letter that stands at place 7 have the answer (`by-byte`); where no tag has that letter, none (`no-byte`). Only `map_tag`
+-- writes to the memory. Assumes nothing.
 use Prim.Native.Nat.{ℕ}
 use mathlib.Core.Path.{_≡_, refl, sym, _∙_}
 use native.Mathlib.Omega.{arith}
@@ -10,7 +11,7 @@ use Rattle.clip_tags.proofs.tried_tag.Statement.{statement}
 use Rattle.clip_tags.proofs.tried_tag.Tie as tie
 
 -- the tags of letter x have the answer
-chosen : (c : tie.After-byte-at) {x : ℕ} → c .byte-at .result ≡ x → let a = c .before .before .args in matched (withByte 7 x segmentRows) (a .text .now) (a .at) ≡ matched segmentRows (a .text .now) (a .at)
+chosen : (c : tie.After-byte-at) {x : ℕ} → c .byte-at .result ≡ x → let a = c .before .before .before .args in matched (withByte 7 x segmentRows) (a .text .now) (a .at) ≡ matched segmentRows (a .text .now) (a .at)
 chosen c is = by-byte _ _ 7 (omega arith) (c .byte-at .ensures) is segmentRows refl
 
 byte-at-requires : tie.Need-byte-at-requires
@@ -35,25 +36,32 @@ program-date-time-tag-requires : tie.Need-program-date-time-tag-requires
 program-date-time-tag-requires c κs = search needs
 
 returns : tie.Need-returns
-returns c = c .extinf-line .ensures ∙ one-row _ _ extinfRow ∙ chosen (c .before .before) (c .before .match .keys1)
+returns c kept = (c .extinf-line .ensures ∙ one-row _ _ extinfRow ∙ chosen (c .before .before) (c .before .match .keys1), kept)
 
 returns-2 : tie.Need-returns-2
-returns-2 c = c .byte-range-tag .ensures ∙ one-row _ _ byteRangeRow ∙ chosen (c .before .before) (c .before .match .keys2)
+returns-2 c kept = (c .byte-range-tag .ensures ∙ one-row _ _ byteRangeRow ∙ chosen (c .before .before) (c .before .match .keys2), kept)
 
 returns-3 : tie.Need-returns-3
-returns-3 c = c .break-or-dates-tag .ensures ∙ chosen (c .before .before) (c .before .match .keys3)
+returns-3 c kept = (c .break-or-dates-tag .ensures ∙ chosen (c .before .before) (c .before .match .keys3), kept)
 
 returns-4 : tie.Need-returns-4
-returns-4 c = c .key-tag .ensures ∙ one-row _ _ keyRow ∙ chosen (c .before .before) (c .before .match .keys4)
+returns-4 c kept = (c .key-tag .ensures ∙ one-row _ _ keyRow ∙ chosen (c .before .before) (c .before .match .keys4), kept)
+
+same-length : tie.Need-same-length
+same-length c = search needs
 
 returns-5 : tie.Need-returns-5
-returns-5 c = c .map-tag .ensures ∙ one-row _ _ mapRow ∙ chosen (c .before .before) (c .before .match .keys5)
+returns-5 c kept =
+    let t = c .before .before in
+    let m = t .before .before in
+    let read = t .map-tag .ensures kept in
+    (read .0 ∙ one-row _ _ mapRow ∙ chosen (m .before) (m .match .keys5), read .1)
 
 returns-6 : tie.Need-returns-6
-returns-6 c = c .program-date-time-tag .ensures ∙ one-row _ _ programDateTimeRow ∙ chosen (c .before .before) (c .before .match .keys6)
+returns-6 c kept = (c .program-date-time-tag .ensures ∙ one-row _ _ programDateTimeRow ∙ chosen (c .before .before) (c .before .match .keys6), kept)
 
 returns-7 : tie.Need-returns-7
-returns-7 c = sym (no-byte _ _ 7 (omega arith) (c .before .byte-at .ensures) (bytesAt 7 segmentRows) (c .match .rest) segmentRows refl refl)
+returns-7 c kept = (sym (no-byte _ _ 7 (omega arith) (c .before .byte-at .ensures) (bytesAt 7 segmentRows) (c .match .rest) segmentRows refl refl), kept)
 
 pub tried-tag-spec : {M : Type 1} → statement M
 tried-tag-spec =
@@ -70,6 +78,7 @@ tried-tag-spec =
     returns-2
     returns-3
     returns-4
+    same-length
     returns-5
     returns-6
     returns-7)

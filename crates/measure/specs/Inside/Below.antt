@@ -42,6 +42,16 @@ module _ (n : ℕ) where
   abbrev pub ClipsBelow : List ℕ → ℕ → Type 0
   ClipsBelow clips m = (k : ℕ) → k < m → ClipBelow (clipAt clips k)
 
+  -- the same of clip k by its words, present or not, and its length is below the limit
+  pub record WordsBelow (clips : List ℕ) (k : ℕ) : Type 0 where
+    pub uri : SpanBelow (span (clipWord clips k layout.uriStart) (clipWord clips k layout.uriEnd))
+    pub title : SpanBelow (span (clipWord clips k layout.titleStart) (clipWord clips k layout.titleEnd))
+    pub map-uri : SpanBelow (span (clipWord clips k layout.mapUriStart) (clipWord clips k layout.mapUriEnd))
+    pub length-below : clipWord clips k layout.lengthNs < layout.lengthLimit
+
+  abbrev pub TableBelow : List ℕ → ℕ → Type 0
+  TableBelow clips m = (k : ℕ) → k < m → WordsBelow clips k
+
 -- the run of each of n clips is within m unknown tags
 abbrev pub RunsWithin : List ℕ → ℕ → ℕ → Type 0
 RunsWithin clips n m = (k : ℕ) → k < n → clipWord clips k layout.firstTag + clipWord clips k layout.tagCount ≤ m

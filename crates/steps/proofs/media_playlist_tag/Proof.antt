@@ -10,7 +10,7 @@ use Rattle.steps.proofs.media_playlist_tag.Tie as tie
 
 returns : tie.Need-returns
 unfolding mediaPlaylistTag
-returns c = rw (le-ltb _ _ (c .if1 .taken))
+returns c kept = (rw (le-ltb _ _ (c .if1 .taken)), kept)
 
 shared-slice-read-if2 : tie.Need-shared-slice-read-if2
 shared-slice-read-if2 c = search needs
@@ -19,7 +19,7 @@ uri-line-requires : tie.Need-uri-line-requires
 uri-line-requires c κs = search needs
 
 returns-2 : tie.Need-returns-2
-returns-2 c = c .uri-line .ensures ∙ sym (not-hash _ _ (c .before .if2 .taken) (c .before .before .before .if1 .left))
+returns-2 c kept = (c .uri-line .ensures ∙ sym (not-hash _ _ (c .before .if2 .taken) (c .before .before .before .if1 .left)), kept)
 
 playlist-tag-requires : tie.Need-playlist-tag-requires
 playlist-tag-requires c κs = search needs
@@ -34,10 +34,19 @@ media-segment-tag-requires : tie.Need-media-segment-tag-requires
 media-segment-tag-requires c κs = search needs
 
 returns-3 : tie.Need-returns-3
-returns-3 c = let t = c .before .before in held _ (t .playlist-tag .ensures) (c .enum-told .given .1) ∙ head-first _ _ (t .before .before .before .if1 .left)
+returns-3 c kept =
+    let t = c .before .before in
+    (held _ (t .playlist-tag .ensures) (c .enum-told .given .1) ∙ head-first _ _ (t .before .before .before .if1 .left), kept)
+
+same-length : tie.Need-same-length
+same-length c = search needs
 
 returns-4 : tie.Need-returns-4
-returns-4 c = let t = c .before .before .before in c .media-segment-tag .ensures ∙ failed (t .playlist-tag .ensures) (c .before .enum-told2 .given .1) ∙ head-first _ _ (t .before .before .before .if1 .left)
+returns-4 c kept =
+    let u = c .before .before in
+    let t = u .before .before .before .before in
+    let rest = u .media-segment-tag .ensures kept in
+    (rest .0 ∙ failed (t .playlist-tag .ensures) (u .before .before .enum-told2 .given .1) ∙ head-first _ _ (t .before .before .before .if1 .left), rest .1)
 
 pub media-playlist-tag-spec : {M : Type 1} → statement M
 media-playlist-tag-spec =
@@ -52,4 +61,5 @@ media-playlist-tag-spec =
     enum-told-2
     media-segment-tag-requires
     returns-3
+    same-length
     returns-4)

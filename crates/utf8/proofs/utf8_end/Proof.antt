@@ -1,5 +1,5 @@
--- The loop's invariant: the characters from here on end where those from the start do. Each turn passes one character and the ASCII behind it, so that the bytes
--- that are left become fewer. Assumes nothing.
+-- The loop's invariant: the characters from here on end where those from the start do, as they do behind the blocks. Each turn passes one character and the ASCII
+-- behind it, so that the bytes that are left become fewer. Assumes nothing.
 use Prim.Native.Nat.{_+_, _-_}
 use mathlib.Core.Path.{_≡_, sym, _∙_, ap}
 use borrow.Author.Needs.{needs}
@@ -19,11 +19,14 @@ Inv-loop text i₀ i = utf8End text 0 ≡ utf8End text i
 abbrev μ-loop : tie.MeasureT-loop
 μ-loop text i₀ i = length text - i
 
-ascii-end-requires : tie.Need-ascii-end-requires Inv-loop μ-loop
-ascii-end-requires c κs = search needs
+first-end-requires : tie.Need-first-end-requires Inv-loop μ-loop
+first-end-requires c κs = search needs
+
+blocks-end-requires : tie.Need-blocks-end-requires Inv-loop μ-loop
+blocks-end-requires c κs = search needs
 
 loop-holds : tie.Need-loop-holds Inv-loop μ-loop
-loop-holds c = ascii-run _ 0 ∙ ap (utf8End _) (sym (c .ascii-end .ensures))
+loop-holds c = c .before .first-end .ensures ∙ c .blocks-end .ensures
 
 utf8-char-requires : tie.Need-utf8-char-requires Inv-loop μ-loop
 utf8-char-requires c κs = search needs
@@ -34,18 +37,18 @@ returns c = sym (c .before .before .before .loop .inv ∙ end-stop _ _ _ (c .bef
 add-ascii-end : tie.Need-add-ascii-end Inv-loop μ-loop
 add-ascii-end c = omega (arith, char-room _ _ _ (c .before .utf8-char .ensures) (c .if1 .left))
 
-ascii-end-requires-2 : tie.Need-ascii-end-requires-2 Inv-loop μ-loop
-ascii-end-requires-2 c κs = search needs
+ascii-end-requires : tie.Need-ascii-end-requires Inv-loop μ-loop
+ascii-end-requires c κs = search needs
 
 loop-less : tie.Need-loop-less Inv-loop μ-loop
 loop-less c =
     let l = c .before .before .before .before in
-    omega (arith, c .ascii-end2 .ensures, run-from isAscii (l .before .before .before .args .text .now) (l .loop .i + c .before .before .utf8-char .result))
+    omega (arith, c .ascii-end .ensures, run-from isAscii (l .before .before .before .before .args .text .now) (l .loop .i + c .before .before .utf8-char .result))
 
 loop-again : tie.Need-loop-again Inv-loop μ-loop
 loop-again c =
     let t = c .before in
-    t .before .before .before .loop .inv ∙ end-step _ _ _ (t .before .utf8-char .ensures) (t .if1 .left) ∙ ascii-run _ _ ∙ ap (utf8End _) (sym (c .ascii-end2 .ensures))
+    t .before .before .before .loop .inv ∙ end-step _ _ _ (t .before .utf8-char .ensures) (t .if1 .left) ∙ ascii-run _ _ ∙ ap (utf8End _) (sym (c .ascii-end .ensures))
 
 returns-2 : tie.Need-returns-2 Inv-loop μ-loop
 returns-2 c = sym (c .before .loop .inv ∙ end-out _ _ (c .loop-test .left))
@@ -56,12 +59,13 @@ utf8-end-spec =
     (tie.spec
     Inv-loop
     μ-loop
-    ascii-end-requires
+    first-end-requires
+    blocks-end-requires
     loop-holds
     utf8-char-requires
     returns
     add-ascii-end
-    ascii-end-requires-2
+    ascii-end-requires
     loop-less
     loop-again
     returns-2)

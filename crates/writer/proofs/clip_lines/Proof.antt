@@ -3,13 +3,11 @@
 use borrow.Author.Needs.{needs}
 use native.Mathlib.Omega.{arith}
 use native.Mathlib.Nat.{sub-zero}
-use mathlib.Core.Path.{_≡_, ap, sym, _∙_}
-use mathlib.Core.List.{_++_}
 use Prim.Native.Nat.{_+_, _-_, _≤_}
 use denote.Ref.{now}
 use lib.ListN.{length}
 use borrow.Rule.Slice.PartMut.{putMid}
-use Rattle.assembly.specs.Answers.{clipSeen}
+use Rattle.records.specs.Records.{clipAt}
 use Rattle.put.specs.Put.{Puts}
 use Rattle.playlist.specs.Inside.Texts.{clipText, clipsText}
 use Rattle.playlist.proofs.Groups.{clips-next, clips-over}
@@ -28,30 +26,27 @@ loop-holds c =
     let s = c .before .before .before .before in
     (search needs, (s .pre, left-as (rw sub-zero) (left-all _ _ _)))
 
-clip-at-requires : tie.Need-clip-at-requires Inv-loop μ-loop
-clip-at-requires c κs = search needs
+sub-clip-of : tie.Need-sub-clip-of Inv-loop μ-loop
+sub-clip-of c = search needs
 
-sub-clip : tie.Need-sub-clip Inv-loop μ-loop
-sub-clip c = search needs
+part-clip-of-start : tie.Need-part-clip-of-start Inv-loop μ-loop
+part-clip-of-start c = search needs
 
-part-clip-start : tie.Need-part-clip-start Inv-loop μ-loop
-part-clip-start c = search needs
+part-clip-of-end : tie.Need-part-clip-of-end Inv-loop μ-loop
+part-clip-of-end c = search needs
 
-part-clip-end : tie.Need-part-clip-end Inv-loop μ-loop
-part-clip-end c = search needs
-
-clip-requires : tie.Need-clip-requires Inv-loop μ-loop
-clip-requires c κs = search needs
+clip-of-requires : tie.Need-clip-of-requires Inv-loop μ-loop
+clip-of-requires c κs = search needs
 
 -- the clip is put into the whole
 put : (c : tie.After-slice-known2 Inv-loop μ-loop) →
-    (let e = c .before .before in let l = e .before .before .before .before .loop in let a = e .before .before .before .before .before .before .before .before .before .args in
-    Puts (l .out) (l .to) (clipText (now (a .text)) (now (a .tags)) (a .tag-count) (clipSeen (e .before .before .clip-at .result))) (putMid (l .to) (length (l .out) - l .to) (l .out) (e .clip .last .0)) (l .to + e .clip .result))
-put c = let e = c .before .before in let l = e .before .before .before .before .loop in puts-tail (l .out) (l .to) (l .inv .1 .0) _ (e .clip .ensures)
+    (let e = c .before .before in let l = e .before .before .before .loop in let a = e .before .before .before .before .before .before .before .before .args in
+    Puts (l .out) (l .to) (clipText (now (a .text)) (now (a .tags)) (a .tag-count) (clipAt (now (a .clips)) (l .k))) (putMid (l .to) (length (l .out) - l .to) (l .out) (e .clip-of .last .0)) (l .to + e .clip-of .result))
+put c = let e = c .before .before in let l = e .before .before .before .loop in puts-tail (l .out) (l .to) (l .inv .1 .0) _ (e .clip-of .ensures)
 
 add-to : tie.Need-add-to Inv-loop μ-loop
 add-to c =
-    let l = c .before .before .before .before .before .before in
+    let l = c .before .before .before .before .before in
     omega (arith, puts-within (put c) (l .loop .inv .1 .0), puts-long (put c), l .loop .inv .1 .1 .long, l .before .before .before .before .before .good .0 .0)
 
 add-k : tie.Need-add-k Inv-loop μ-loop
@@ -62,15 +57,9 @@ loop-less c = search needs
 
 loop-again : tie.Need-loop-again Inv-loop μ-loop
 loop-again c =
-    let l = c .before .before .before .before .before .before in
+    let l = c .before .before .before .before .before in
     let a = l .before .before .before .before .before .args in
-    let text = now (a .text) in
-    let tags = now (a .tags) in
-    let clips = now (a .clips) in
-    let n = a .clip-count in
-    let k = l .loop .k in
-    let next = clips-next text tags (a .tag-count) clips k n (search needs)
-    ∙ ap (λ d. clipText text tags (a .tag-count) d ++ clipsText text tags (a .tag-count) clips (k + 1) (n - (k + 1))) (sym (c .before .before .before .before .clip-at .ensures)) in
+    let next = clips-next (now (a .text)) (now (a .tags)) (a .tag-count) (now (a .clips)) (l .loop .k) (a .clip-count) (search needs) in
     (search needs, (puts-within (put c) (l .loop .inv .1 .0), left-on (left-as next (l .loop .inv .1 .1)) (put c)))
 
 same-length : tie.Need-same-length Inv-loop μ-loop
@@ -89,11 +78,10 @@ clip-lines-spec =
     Inv-loop
     μ-loop
     loop-holds
-    clip-at-requires
-    sub-clip
-    part-clip-start
-    part-clip-end
-    clip-requires
+    sub-clip-of
+    part-clip-of-start
+    part-clip-of-end
+    clip-of-requires
     add-to
     add-k
     loop-less

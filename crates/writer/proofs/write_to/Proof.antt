@@ -2,12 +2,13 @@
 use borrow.Author.Needs.{needs}
 use mathlib.Core.Path.{refl, sym, _∙_, ap}
 use Rattle.playlist.specs.Answers.{writeAnswer}
+use Rattle.measure.specs.Leave.{leaveOf}
 use Rattle.writer.proofs.Answered.{refuses, writes}
 use Rattle.writer.proofs.write_to.Statement.{statement}
 use Rattle.writer.proofs.write_to.Tie as tie
 
-measured-requires : tie.Need-measured-requires
-measured-requires c κs = search needs
+may-write-requires : tie.Need-may-write-requires
+may-write-requires c κs = search needs
 
 enum-known-r : tie.Need-enum-known-r
 enum-known-r c = search needs
@@ -19,7 +20,7 @@ whole-requires : tie.Need-whole-requires
 whole-requires c κs = search needs
 
 returns : tie.Need-returns
-returns c = refuses writeAnswer _ _ _ _ _ _ _ _ _ refl (sym (ap writeAnswer (c .before .r .given .1)) ∙ c .before .before .before .measured .ensures)
+returns c = refuses writeAnswer _ _ _ _ _ _ _ _ _ refl (sym (ap leaveOf (c .before .r .given .1)) ∙ c .before .before .before .may-write .ensures)
 
 same-length : tie.Need-same-length
 same-length c = search needs
@@ -28,13 +29,13 @@ returns-2 : tie.Need-returns-2
 returns-2 c =
     let e = c .before .before in
     let t = e .before .before in
-    writes writeAnswer _ _ _ _ _ _ _ _ (t .enum-told .given .0 .0) (sym (ap writeAnswer (t .enum-told .given .1)) ∙ t .before .before .measured .ensures) (e .whole .ensures) refl
+    writes writeAnswer _ _ _ _ _ _ _ _ (sym (ap leaveOf (t .enum-told .given .1)) ∙ t .before .before .may-write .ensures) (e .whole .ensures) refl
 
 pub write-to-spec : {M : Type 1} → statement M
 write-to-spec =
     tie.close
     (tie.spec
-    measured-requires
+    may-write-requires
     enum-known-r
     enum-told
     whole-requires

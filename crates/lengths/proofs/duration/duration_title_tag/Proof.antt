@@ -25,12 +25,12 @@ slice-aggregate-after-tag c = search needs
 after-tag-requires : tie.Need-after-tag-requires
 after-tag-requires c κs = search needs
 
-until-three-requires : tie.Need-until-three-requires
-until-three-requires c κs = search needs
+words-until-three-requires : tie.Need-words-until-three-requires
+words-until-three-requires c κs = search needs
 
 returns : tie.Need-returns
 unfolding durationTitleTag
-returns c = rw (length (c .before .before .before .before .before), ← c .before .before .after-tag .ensures, ← c .before .until-three .ensures, le-ltb _ _ (c .if1 .taken))
+returns c = rw (length (c .before .before .before .before .before), ← c .before .before .after-tag .ensures, ← c .before .words-until-three .ensures, le-ltb _ _ (c .if1 .taken))
 
 part-requires : tie.Need-part-requires
 part-requires c κs = search needs
@@ -54,7 +54,7 @@ returns-2 c =
     rw (
       length (t .before .before .before .before .before),
       ← t .before .before .after-tag .ensures,
-      ← t .before .until-three .ensures,
+      ← t .before .words-until-three .ensures,
       lt-ltb _ _ (t .if1 .left),
       ← c .before .before .part .ensures,
       ← c .after-tag2 .ensures,
@@ -72,7 +72,7 @@ duration-title-tag-spec =
     enum-known-duration
     slice-aggregate-after-tag
     after-tag-requires
-    until-three-requires
+    words-until-three-requires
     returns
     part-requires
     add-after-tag

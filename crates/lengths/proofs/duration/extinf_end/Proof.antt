@@ -41,12 +41,12 @@ slice-aggregate-after-tag c = search needs
 after-tag-requires : tie.Need-after-tag-requires
 after-tag-requires c κs = search needs
 
-until-three-requires : tie.Need-until-three-requires
-until-three-requires c κs = search needs
+words-until-three-requires : tie.Need-words-until-three-requires
+words-until-three-requires c κs = search needs
 
 returns-2 : tie.Need-returns-2
 unfolding durationTitleTag
-returns-2 c = rw (length (c .before .before .before .before) .is, ← c .before .before .after-tag .ensures, ← c .before .until-three .ensures, le-ltb _ _ (c .if2 .taken))
+returns-2 c = rw (length (c .before .before .before .before) .is, ← c .before .before .after-tag .ensures, ← c .before .words-until-three .ensures, le-ltb _ _ (c .if2 .taken))
 
 add-after-tag : tie.Need-add-after-tag
 add-after-tag c = search needs
@@ -62,8 +62,8 @@ unfolding durationTitleTag
 returns-3 c =
     let t = c .before .before in
     let l = length (t .before .before .before .before) in
-    rw (l .is, ← t .before .before .after-tag .ensures, ← t .before .until-three .ensures, lt-ltb _ _ (t .if2 .left), ← c .after-tag2 .ensures)
-    (ap (λ (b : Bool). some (b, c .after-tag2 .result)) (l .long (spanOr (t .before .before .after-tag .result) (t .before .until-three .result))))
+    rw (l .is, ← t .before .before .after-tag .ensures, ← t .before .words-until-three .ensures, lt-ltb _ _ (t .if2 .left), ← c .after-tag2 .ensures)
+    (ap (λ (b : Bool). some (b, c .after-tag2 .result)) (l .long (spanOr (t .before .before .after-tag .result) (t .before .words-until-three .result))))
 
 pub extinf-end-spec : {M : Type 1} → statement M
 extinf-end-spec =
@@ -77,7 +77,7 @@ extinf-end-spec =
     sub-too-many-2
     slice-aggregate-after-tag
     after-tag-requires
-    until-three-requires
+    words-until-three-requires
     returns-2
     add-after-tag
     slice-aggregate-after-tag-2

@@ -21,16 +21,16 @@ starts-with-requires c κs = search needs
 add-after : tie.Need-add-after
 add-after c = omega (arith, tagged-within _ _ _ (omega arith) (there c))
 
-until-one-requires : tie.Need-until-one-requires
-until-one-requires c κs = search needs
+find-one-requires : tie.Need-find-one-requires
+find-one-requires c κs = search needs
 
 returns : tie.Need-returns
 unfolding orRow
-returns c = sym (undashed-here _ _ _ _ _ (there (c .before .before)) (c .before .until-one .ensures) (c .if2 .taken))
+returns c = sym (undashed-here _ _ _ _ _ (there (c .before .before)) (c .before .find-one .ensures) (c .if2 .taken))
 
 returns-2 : tie.Need-returns-2
 unfolding orRow
-returns-2 c = sym (undashed-not _ _ _ _ _ (there (c .before .before)) (c .before .until-one .ensures) (c .if2 .left))
+returns-2 c = sym (undashed-not _ _ _ _ _ (there (c .before .before)) (c .before .find-one .ensures) (c .if2 .left))
 
 returns-3 : tie.Need-returns-3
 unfolding orRow
@@ -39,4 +39,4 @@ returns-3 c = sym (row-not _ _ mediaName (sym (c .before .starts-with .ensures) 
 pub group-tag-spec : {M : Type 1} → statement M
 group-tag-spec =
     tie.close
-    (tie.spec starts-with-requires add-after until-one-requires returns returns-2 returns-3)
+    (tie.spec starts-with-requires add-after find-one-requires returns returns-2 returns-3)

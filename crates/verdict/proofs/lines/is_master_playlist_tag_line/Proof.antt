@@ -11,11 +11,8 @@ returns : tie.Need-returns
 unfolding isMasterPlaylistTagLine
 returns c = rw (le-ltb _ _ (c .if1 .taken))
 
-slice-aggregate-while-any : tie.Need-slice-aggregate-while-any
-slice-aggregate-while-any c = search needs
-
-while-any-requires : tie.Need-while-any-requires
-while-any-requires c κs = search needs
+while-two-requires : tie.Need-while-two-requires
+while-two-requires c κs = search needs
 
 tag-kind-requires : tie.Need-tag-kind-requires
 tag-kind-requires c κs = search needs
@@ -37,22 +34,21 @@ unfolding isMasterPlaylistTagLine
 returns-2 c =
     let past = c .before .before .before .before .before in
     let kind = sym (c .before .before .before .before .tag-kind .ensures) ∙ ap (optKind _) (c .before .before .kind .given .1) in
-    rw (lt-ltb _ _ (past .before .before .if1 .left), ← past .while-any .ensures, kind) (c .with-rest .ensures)
+    rw (lt-ltb _ _ (past .before .if1 .left), ← past .while-two .ensures, kind) (c .with-rest .ensures)
 
 returns-3 : tie.Need-returns-3
 unfolding isMasterPlaylistTagLine
 returns-3 c =
     let past = c .before .before .before .before in
     let none = sym (c .before .before .before .tag-kind .ensures) ∙ ap (optKind _) (c .before .enum-told .given .1) in
-    rw (lt-ltb _ _ (past .before .before .if1 .left), ← past .while-any .ensures, none) (c .with-rest2 .ensures)
+    rw (lt-ltb _ _ (past .before .if1 .left), ← past .while-two .ensures, none) (c .with-rest2 .ensures)
 
 pub is-master-playlist-tag-line-spec : {M : Type 1} → statement M
 is-master-playlist-tag-line-spec =
     tie.close
     (tie.spec
     returns
-    slice-aggregate-while-any
-    while-any-requires
+    while-two-requires
     tag-kind-requires
     enum-known-kind
     with-rest-requires

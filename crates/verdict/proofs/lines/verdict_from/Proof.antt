@@ -1,4 +1,4 @@
--- `lines::verdict_from`: the verdict from the start is the verdict from here, as the lines before told nothing (`FirstSaid`). The measure is what is left
+-- `lines::verdict_from`: the verdict from the start is the verdict from here, as what was passed and the lines before told nothing (`FirstSaid`). The measure is what is left
 -- of the text. Assumes nothing.
 use mathlib.Core.Path.{refl, sym, _∙_, ap, _≡_}
 use Rattle.verdict.specs.Verdict.{isMasterPlaylistTagLine, orLater, verdictFrom}
@@ -6,6 +6,7 @@ use Rattle.text.specs.Nom.{ok}
 use Rattle.verdict.specs.Answers.{saysOf, lineRes}
 use Rattle.verdict.proofs.FirstSaid.{verdict-stop, verdict-step, line-falls}
 use borrow.Author.Needs.{needs}
+use native.Mathlib.Omega.{arith}
 use Prim.Native.Nat.{_-_}
 use lib.ListN.{length}
 use Rattle.verdict.proofs.lines.verdict_from.Statement.{statement}
@@ -18,17 +19,20 @@ abbrev μ-loop : tie.MeasureT-loop
 μ-loop text at at₀ at' = length text - at'
 
 -- a line was taken here
-taken : (c : tie.After-says Inv-loop μ-loop) → let text = c .before .before .before .before .before .args .text .now in
-    isMasterPlaylistTagLine text (c .before .before .before .loop .at) ≡ ok (saysOf (c .says .given .0 .0)) (c .says .given .0 .1 .0)
+taken : (c : tie.After-says Inv-loop μ-loop) → let text = c .before .before .before .before .before .before .args .text .now in
+    isMasterPlaylistTagLine text (c .before .before .before .quiet-end .result) ≡ ok (saysOf (c .says .given .0 .0)) (c .says .given .0 .1 .0)
 taken c = sym (c .before .before .is-master-playlist-tag-line .ensures) ∙ ap lineRes (c .says .given .1)
 
 -- and what it says decides, or leaves the verdict to the lines after it
-from-line : (c : tie.After-says Inv-loop μ-loop) → let text = c .before .before .before .before .before .args .text .now in
-    verdictFrom text (c .before .before .before .before .before .args .at) ≡ orLater (saysOf (c .says .given .0 .0)) (verdictFrom text (c .says .given .0 .1 .0))
-from-line c = c .before .before .before .loop .inv ∙ verdict-step _ _ _ _ (taken c)
+from-line : (c : tie.After-says Inv-loop μ-loop) → let text = c .before .before .before .before .before .before .args .text .now in
+    verdictFrom text (c .before .before .before .before .before .before .args .at) ≡ orLater (saysOf (c .says .given .0 .0)) (verdictFrom text (c .says .given .0 .1 .0))
+from-line c = let q = c .before .before .before in q .before .loop .inv ∙ q .quiet-end .ensures .1 ∙ verdict-step _ _ _ _ (taken c)
 
 loop-holds : tie.Need-loop-holds Inv-loop μ-loop
 loop-holds c = refl
+
+quiet-end-requires : tie.Need-quiet-end-requires Inv-loop μ-loop
+quiet-end-requires c κs = search needs
 
 is-master-playlist-tag-line-requires :
     tie.Need-is-master-playlist-tag-line-requires Inv-loop μ-loop
@@ -40,7 +44,8 @@ enum-told c = search needs
 returns : tie.Need-returns Inv-loop μ-loop
 returns c =
     let fails = sym (c .before .before .is-master-playlist-tag-line .ensures) ∙ ap lineRes (c .enum-told .given .1) in
-    sym (c .before .before .before .loop .inv ∙ verdict-stop _ _ _ fails)
+    let q = c .before .before .before in
+    sym (q .before .loop .inv ∙ q .quiet-end .ensures .1 ∙ verdict-stop _ _ _ fails)
 
 enum-known-says : tie.Need-enum-known-says Inv-loop μ-loop
 enum-known-says c = search needs
@@ -49,7 +54,7 @@ enum-told-2 : tie.Need-enum-told-2 Inv-loop μ-loop
 enum-told-2 c = search needs
 
 loop-less : tie.Need-loop-less Inv-loop μ-loop
-loop-less c = line-falls _ _ _ _ (taken (c .before .before .before))
+loop-less c = let says = c .before .before .before in omega (arith, line-falls _ _ _ _ (taken says), says .before .before .before .quiet-end .ensures .0)
 
 loop-again : tie.Need-loop-again Inv-loop μ-loop
 loop-again c = rw (c .enum-told2 .given .1) at (from-line (c .before .before .before))
@@ -70,6 +75,7 @@ verdict-from-spec =
     Inv-loop
     μ-loop
     loop-holds
+    quiet-end-requires
     is-master-playlist-tag-line-requires
     enum-told
     returns

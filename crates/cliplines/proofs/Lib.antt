@@ -1,0 +1,2 @@
+-- most clips' texts by their words
+pub mod Words

@@ -1,0 +1,2 @@
+-- what most clips are
+pub mod Plain

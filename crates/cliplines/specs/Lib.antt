@@ -1,0 +1,2 @@
+-- for inner contracts
+pub mod Inside

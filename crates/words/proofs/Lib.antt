@@ -1,0 +1,2 @@
+-- eight bytes at once
+pub mod Eight
