@@ -285,7 +285,7 @@ pub fn while_one(text: &[u8], at: usize, a: u8) -> usize
     while_far(text, at, a, a)
 }
 
-// Past blanks: spaces, tabs, CRs and LFs. Most runs of them are empty, and a byte above the space tells so at once.
+// Past blanks: spaces, tabs, CRs and LFs. Most runs of them are empty, and a byte above the space tells so at once; of the others most have one blank.
 pub fn multispace0(text: &[u8], at: usize) -> usize
     ensures { λ r. ⌜ r ≡ runEnd isMultispace (now (text .entry)) at ⌝ }
 {
@@ -294,6 +294,9 @@ pub fn multispace0(text: &[u8], at: usize) -> usize
     }
     if b' ' < text[at] {
         return at;
+    }
+    if b' ' < scan::byte_at(text, at, 1) {
+        return scan::while_four(text, at, b' ', b'\t', b'\r', b'\n');
     }
     let blocks = one_of_end(text, at, b' ', b'\t', b'\r', b'\n');
     scan::while_four(text, blocks, b' ', b'\t', b'\r', b'\n')

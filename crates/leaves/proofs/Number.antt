@@ -3,7 +3,7 @@ use mathlib.Core.Path.{_≡_, refl, sym, _∙_, ap}
 use mathlib.Core.Bool.{Bool, true, false, cond}
 use mathlib.Core.List.{List, [], _∷_}
 use Prim.Native.Nat.{ℕ, suc, _+_, _*_, _-_, _≤_, _<_, _^_}
-use native.Mathlib.Nat.{suc-add, zero-add, add-assoc}
+use native.Mathlib.Nat.{suc-add, zero-add, add-assoc, pow-suc, pow-le-pow-right}
 use native.Mathlib.Omega.{arith}
 use lib.Dec.{ltb, eqb}
 use lib.ListN.{length, drop, getD}
@@ -107,3 +107,14 @@ module _ (text : List ℕ) (at i v : ℕ) (c : Counted text at i v) where
 
   pub counted-out : length text ≤ i → parsedOf (pickParsed (ltb at i) v i) ≡ parsed text at
   counted-out h = ended (run-out isDigit text i h) (decimal-out text v i h)
+
+-- ---- few digits fit
+pub digits-below : (at i v d : ℕ) → at ≤ i → v < 10 ^ (i - at) → d ≤ 9 → v * 10 + d < 10 ^ (i + 1 - at)
+digits-below at i v d h b k = let e : i + 1 - at ≡ suc (i - at) = omega arith in rw (e, pow-suc) (omega arith)
+
+pub fits-below : (at i v : ℕ) → i < at + 19 → v < 10 ^ (i - at) → v * 10 + 9 < 2 ^ 64
+fits-below at i v h b =
+    let ten : 0 < 10 = omega arith in
+    let few : i - at ≤ 18 = omega arith in
+    let m : 10 ^ (i - at) ≤ 10 ^ 18 = pow-le-pow-right ten few in
+    omega arith

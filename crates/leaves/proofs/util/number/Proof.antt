@@ -1,79 +1,89 @@
--- `util::number`: what `long_number` ensures, or what the loop knows (`Counted`), with one law for each way out. Assumes nothing.
-use Prim.Native.Nat.{_-_}
-use mathlib.Core.Path.{refl, sym, _∙_}
+-- `util::number`: what the loop knows (`Counted`), of digits so few that they fit, and one law for each way out; or what `long_number` ensures.
+-- Assumes nothing.
+use Prim.Native.Nat.{_+_, _*_, _-_, _≤_, _<_, _^_}
+use mathlib.Core.Path.{_≡_, refl, sym, _∙_}
 use borrow.Author.Needs.{needs}
 use native.Mathlib.Omega.{arith}
 use lib.ListN.{length}
-use Rattle.leaves.proofs.Number.{Counted, counted-step, counted-stop, counted-out}
+use Rattle.text.proofs.Laws.{run-out}
+use Rattle.leaves.proofs.Number.{parsed-none, Counted, counted-step, counted-stop, counted-out, digits-below, fits-below}
 use Rattle.leaves.proofs.util.number.Statement.{statement}
 use Rattle.leaves.proofs.util.number.Tie as tie
 
 abbrev Inv-loop : tie.InvT-loop
-Inv-loop text at i₀ v₀ i v = Counted text at i v
+Inv-loop text at near i₀ v₀ i v = Counted text at i v × ((i ≤ near) × (v < 10 ^ (i - at)))
 
 abbrev μ-loop : tie.MeasureT-loop
-μ-loop text at i₀ v₀ i v = length text - i
+μ-loop text at near i₀ v₀ i v = near - i
 
-two-zeros-requires : tie.Need-two-zeros-requires Inv-loop μ-loop
-two-zeros-requires c κs = search needs
-
-long-number-requires : tie.Need-long-number-requires Inv-loop μ-loop
-long-number-requires c κs = search needs
+-- so few digits so far that one more fits
+fits : (c : tie.Then2 Inv-loop μ-loop) → let l = c .before .before .before .before .loop in l .v * 10 + 9 < 2 ^ 64
+fits c =
+    let l = c .before .before .before .before .loop in
+    let a = c .before .before .before .before .before .before .before .before .args in
+    fits-below (a .at) (l .i) (l .v) (omega (arith, c .before .before .before .before .before .fitting-end .ensures .1 .0)) (l .inv .1 .1)
 
 returns : tie.Need-returns Inv-loop μ-loop
-returns c = c .long-number .ensures
+returns c = sym (parsed-none _ _ (run-out _ _ _ (c .if1 .taken)))
+
+fitting-end-requires : tie.Need-fitting-end-requires Inv-loop μ-loop
+fitting-end-requires c κs = search needs
 
 loop-holds : tie.Need-loop-holds Inv-loop μ-loop
-loop-holds c = record { run = refl; value = refl; from = omega arith; small = omega arith }
+loop-holds c =
+    let a = c .before .before .before .args in
+    let z : a .at - a .at ≡ 0 = omega arith in
+    (record { run = refl; value = refl; from = omega arith; small = omega arith }, (c .fitting-end .ensures .0, rw z (omega arith)))
 
 shared-slice-read-b : tie.Need-shared-slice-read-b Inv-loop μ-loop
-shared-slice-read-b c = omega arith
+shared-slice-read-b c = omega (arith, c .before .before .before .fitting-end .ensures .1 .1)
 
 is-digit-requires : tie.Need-is-digit-requires Inv-loop μ-loop
 is-digit-requires c κs = search needs
 
-long-number-requires-2 : tie.Need-long-number-requires-2 Inv-loop μ-loop
-long-number-requires-2 c κs = search needs
-
-returns-2 : tie.Need-returns-2 Inv-loop μ-loop
-returns-2 c = c .long-number2 .ensures
-
 mul-v : tie.Need-mul-v Inv-loop μ-loop
-mul-v c = omega arith
+mul-v c = omega (arith, fits c)
 
 digit-value-requires : tie.Need-digit-value-requires Inv-loop μ-loop
-digit-value-requires c κs = sym (c .before .before .is-digit .ensures) ∙ c .before .if2 .taken
+digit-value-requires c κs = sym (c .before .is-digit .ensures) ∙ c .if2 .taken
 
 add-v : tie.Need-add-v Inv-loop μ-loop
-add-v c = omega arith
+add-v c = omega (arith, fits (c .before), c .digit-value .ensures .1)
 
 add-i : tie.Need-add-i Inv-loop μ-loop
-add-i c = omega arith
+add-i c = omega (arith, c .before .before .before .before .before .before .fitting-end .ensures .1 .1)
 
 loop-less : tie.Need-loop-less Inv-loop μ-loop
 loop-less c = omega arith
 
 loop-again : tie.Need-loop-again Inv-loop μ-loop
 loop-again c =
-    let d = c .before .before in
-    let t = d .before .before .before in
-    rw (c .digit-value .ensures .0)
-    (counted-step _ _ _ _ (t .before .loop .inv) (t .loop-test .taken) (sym (d .before .is-digit .ensures) ∙ d .if2 .taken) (omega arith))
+    let l = c .before .before .before .before .before .loop in
+    let a = c .before .before .before .before .before .before .before .before .before .args in
+    let d = c .digit-value .ensures in (
+      rw (d .0) (counted-step _ _ _ _ (l .inv .0) (omega (arith, c .before .before .before .before .before .before .fitting-end .ensures .1 .1)) (sym (c .before .before .is-digit .ensures) ∙ c .before .if2 .taken) (omega (arith, fits (c .before), d))),
+      (omega arith, digits-below (a .at) (l .i) (l .v) _ (l .inv .0 .from) (l .inv .1 .1) (d .1)),
+    )
 
 parsed-to-requires : tie.Need-parsed-to-requires Inv-loop μ-loop
 parsed-to-requires c κs = search needs
 
-returns-3 : tie.Need-returns-3 Inv-loop μ-loop
-returns-3 c =
-    let t = c .before .before .before .before in
+returns-2 : tie.Need-returns-2 Inv-loop μ-loop
+returns-2 c =
     rw (c .parsed-to .ensures)
-    (counted-stop _ _ _ _ (t .before .loop .inv) (t .loop-test .taken) (sym (c .before .before .is-digit .ensures) ∙ c .before .if2 .left))
+    (counted-stop _ _ _ _ (c .before .before .before .before .before .loop .inv .0) (omega (arith, c .before .before .before .before .before .before .fitting-end .ensures .1 .1)) (sym (c .before .before .is-digit .ensures) ∙ c .before .if2 .left))
+
+long-number-requires : tie.Need-long-number-requires Inv-loop μ-loop
+long-number-requires c κs = search needs
+
+returns-3 : tie.Need-returns-3 Inv-loop μ-loop
+returns-3 c = c .long-number .ensures
 
 parsed-to-requires-2 : tie.Need-parsed-to-requires-2 Inv-loop μ-loop
 parsed-to-requires-2 c κs = search needs
 
 returns-4 : tie.Need-returns-4 Inv-loop μ-loop
-returns-4 c = rw (c .parsed-to2 .ensures) (counted-out _ _ _ _ (c .before .before .loop .inv) (c .before .loop-test .left))
+returns-4 c = rw (c .parsed-to2 .ensures) (counted-out _ _ _ _ (c .before .before .before .loop .inv .0) (omega arith))
 
 pub number-spec : {M : Type 1} → statement M
 number-spec =
@@ -81,14 +91,11 @@ number-spec =
     (tie.spec
     Inv-loop
     μ-loop
-    two-zeros-requires
-    long-number-requires
     returns
+    fitting-end-requires
     loop-holds
     shared-slice-read-b
     is-digit-requires
-    long-number-requires-2
-    returns-2
     mul-v
     digit-value-requires
     add-v
@@ -96,6 +103,8 @@ number-spec =
     loop-less
     loop-again
     parsed-to-requires
+    returns-2
+    long-number-requires
     returns-3
     parsed-to-requires-2
     returns-4)
