@@ -4,8 +4,7 @@ use text::SpanRes;
 use text::Why;
 ghost use mathlib.Core.Path.{_≡_};
 ghost use mathlib.Core.Bool.{true};
-ghost use Prim.Native.Nat.{_+_, _-_, _≤_, _<_};
-ghost use lib.ListN.{length};
+ghost use Prim.Native.Nat.{_-_, _≤_};
 ghost use lib.Dec.{ltb};
 ghost use Rattle.text.specs.Nom.{bytes, isDigit, tag, opt, preceded};
 ghost use Rattle.text.specs.Util as rule;
@@ -85,38 +84,23 @@ fn long_number(text: &[u8], at: usize) -> Parsed
 // Numbers of so many digits fit, whatever their digits.
 const FITTING: usize = 19;
 
-// Where so many digits end, or the text before that.
-fn fitting_end(text: &[u8], at: usize) -> usize
-    requires { ⌜ at < length (now text) ⌝ }
-    ensures { λ r. ⌜ (at ≤ r) × ((r ≤ at + 19) × (r ≤ length (now (text .entry)))) ⌝ }
-{
-    if text.len() - at <= FITTING {
-        return text.len();
-    }
-    at + FITTING
-}
-
-// What `long_number` reads. A number of few digits, as nearly all are, is read here with no test of its size.
+// What `long_number` reads. A number of few digits, as nearly all are, is read here, and small enough that the compiler lays it into its callers.
 pub fn number(text: &[u8], at: usize) -> Parsed
     ensures { λ r. ⌜ parsedOf r ≡ rule.parsed (now (text .entry)) at ⌝ }
 {
-    if text.len() <= at {
-        return Parsed::NoDigits;
-    }
-    let near = fitting_end(text, at);
     let mut i = at;
     let mut v: u64 = 0;
-    while i < near {
+    while i < text.len() {
         let b = text[i];
         if scan::is_digit(b) {
+            if FITTING <= i - at {
+                return long_number(text, at);
+            }
             v = v * 10 + digit_value(b);
             i += 1;
         } else {
             return parsed_to(v, at, i);
         }
-    }
-    if near < text.len() {
-        return long_number(text, at);
     }
     parsed_to(v, at, i)
 }
