@@ -84,7 +84,7 @@ fn long_number(text: &[u8], at: usize) -> Parsed
 // Numbers of so many digits fit, whatever their digits.
 const FITTING: usize = 19;
 
-// What `long_number` reads. A number of few digits, as nearly all are, is read here, and small enough that the compiler lays it into its callers.
+// What `long_number` reads. So many digits fit whatever they are, so that a number of few, as nearly all are, is read here without a look at its size.
 pub fn number(text: &[u8], at: usize) -> Parsed
     ensures { λ r. ⌜ parsedOf r ≡ rule.parsed (now (text .entry)) at ⌝ }
 {
