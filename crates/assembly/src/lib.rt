@@ -1,4 +1,6 @@
 // What the tags of a playlist make (parser.rs, `media_playlist_from_tags`): its head, and its clips, by value and as the words of their records.
+#![tactic(auto)]
+
 use crate::segment::Segment;
 use text::Span;
 

@@ -1,5 +1,7 @@
 // What is found by many bytes at once: a line's end, the first of a few bytes, the end of a run of blanks, digits or ASCII. Where the blocks end, a scan
 // goes on byte by byte, so that each answer is the rule's own.
+#![tactic(auto)]
+
 ghost use Rattle.std.specs.Prelude.{◌≡◌, true, [], ◌∷◌, ℕ, ◌+◌, ◌≤◌, ◌<◌, length, get_or};
 ghost use Rattle.text.specs.Nom.{bytes, is_ascii, is_digit, is_one_of, is_none_of, run_end, is_multispace};
 

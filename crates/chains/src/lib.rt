@@ -4,6 +4,7 @@
 // value the same closing quote mark, and are one chain from there on. A list begins behind a tag at a line's beginning, where a chain can only be within a name
 // or within a quoted value: so at most two different chains go on there, however many lists began before.
 // What is kept is true of the text, whatever was read before (`specs/Kept.antt`): a list that is read with it is the list that is there.
+#![tactic(auto)]
 
 pub mod kept; // what is kept, as words that the caller lends
 pub mod chain; // along a chain

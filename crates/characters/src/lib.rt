@@ -1,5 +1,7 @@
 // The fast way past UTF-8 of any alphabet: blocks of bytes, each byte judged by the three before it. A block may end within a character: then the answer is where
 // that character begins. What is left goes character by character, in `utf8`.
+#![tactic(auto)]
+
 ghost use Rattle.std.specs.Prelude.{◌≡◌, true, ℕ, ◌+◌, ◌≤◌, ◌<◌, length};
 ghost use Rattle.text.specs.Utf8.{utf8_end};
 ghost use Rattle.characters.specs.Inside.Fits as rule;

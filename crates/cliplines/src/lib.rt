@@ -1,5 +1,7 @@
 // A clip's lines (playlist.rs, `MediaSegment::write_to`) at the front of a lent output: as many of their bytes as it has room for. Each function answers the
 // place that it reached. Lines that may be missing put nothing then.
+#![tactic(auto)]
+
 ghost use Rattle.std.specs.Prelude.{◌≡◌, ◌+◌, ◌-◌, min};
 ghost use Rattle.assembly.specs.Answers.{clip_seen};
 ghost use Rattle.records.specs.Records.{clip_at};

@@ -1,5 +1,7 @@
 // Writes the cue file of a media playlist: the list on standard input, the file on standard output. A refusal is one line on standard error, and nothing on standard output.
 // It knows no rule of a playlist and no byte of a cue file: the reader fills the clip table, the writer makes the file of it.
+#![tactic(auto)]
+
 ghost use Rattle.std.specs.Prelude.{◌≡◌, false, length, take};
 ghost use Rattle.input.specs.declared.whole.Whole as wholeᵈ;
 ghost use Rattle.output.specs.Puts.{PutsFirst};

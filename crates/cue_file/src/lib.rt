@@ -1,5 +1,7 @@
 // The cue file of the motor board (02, [3]): what it looks like and what its writer and reader answer are the rules in `specs/`, that both undo each other the
 // laws in `proofs/`. Here stand the numbers of version 1 that writer and reader share, and what the reader's answers are made of.
+#![tactic(auto)]
+
 use tables::{Refusal, layout};
 use text::Span;
 

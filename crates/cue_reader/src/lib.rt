@@ -1,5 +1,7 @@
 // Reads a cue file (02, [3]): the whole file is judged, then a clip's start and its URI's span are given. Places are compared by differences, so that no number
 // of a file makes a sum overflow.
+#![tactic(auto)]
+
 ghost use Rattle.std.specs.Prelude.{◌≡◌, cond, ℕ, suc, ◌+◌, ◌-◌, ◌*◌, ◌≤◌, leb, eqb, length};
 ghost use Rattle.tables.specs.Table.{every};
 ghost use Rattle.tables.specs.Refusal.{given};

@@ -1,4 +1,6 @@
 // Writes a cue file (02, [3]) from a text and its clip table: a record a clip, the URI bytes, the trailer. All refusals are known before the first byte is put.
+#![tactic(auto)]
+
 ghost use Rattle.std.specs.Prelude.{◌≡◌};
 ghost use Rattle.text.specs.Spans.{span_in};
 ghost use Rattle.tables.specs.Table.{every};

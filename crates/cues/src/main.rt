@@ -1,5 +1,7 @@
 // Shows a cue file as text: the file on standard input, on standard output a line for each clip with its number, its start in ns and its URI.
 // A refusal is one line on standard error, and nothing on standard output.
+#![tactic(auto)]
+
 ghost use Rattle.std.specs.Prelude.{take};
 ghost use Rattle.input.specs.declared.whole.Whole as wholeᵈ;
 ghost use Rattle.printing.specs.Said.{SaidAs, SaysAs};

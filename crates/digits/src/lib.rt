@@ -1,4 +1,6 @@
 // How many bytes a number and a length take as text (01, "Writing"). The texts themselves are in `specs/`; who has room for them writes them.
+#![tactic(auto)]
+
 ghost use Rattle.std.specs.Prelude.{◌≡◌, ◌^◌, ◌≤◌, ◌<◌, length};
 ghost use Rattle.tables.specs.Layout.{second};
 ghost use Rattle.digits.specs.Digits.{number_text, fraction_by, fraction_text, length_text};

@@ -1,5 +1,7 @@
 // The tags of a playlist's head (parser.rs, `media_playlist_tag`), each read by its row of `tags`.
 // Each function takes any text and any place. Its contract is one equation with a rule of `tags`.
+#![tactic(auto)]
+
 ghost use Rattle.std.specs.Prelude.{◌≡◌, [], ◌∷◌};
 ghost use Rattle.text.specs.Nom as nom;
 ghost use Rattle.text.specs.Util as util;

@@ -1,5 +1,7 @@
 // A head's lines (playlist.rs, `MediaPlaylist::write_to` up to the segments) at a place of a lent output: as many of their bytes as it still has room for.
 // Each function answers the place that it reached. Lines that may be missing put nothing then.
+#![tactic(auto)]
+
 ghost use Rattle.std.specs.Prelude.{cond, [], ◌++◌, eqb};
 ghost use Rattle.text.specs.Nom.{bytes};
 ghost use Rattle.text.specs.Answers.{span_of};

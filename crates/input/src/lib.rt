@@ -1,5 +1,7 @@
 // Input that is taken bit by bit, through a lent buffer that is filled again where it is used up.
 // A stop holds: once the input stopped, whatever is taken is 0 and nothing is read. So a caller takes all it wants, and asks once.
+#![tactic(auto)]
+
 ghost use Rattle.std.specs.Prelude.{◌≡◌, true, ◌≤◌, length};
 ghost use Rattle.input.specs.Held.{TakenFrom};
 ghost use Rattle.input.specs.Held as rule;

@@ -1,6 +1,8 @@
 // The face of the library: every public call under its C name, for C and for Rust (include/ledgerfern.h, bindings/rust).
 // An answer is a struct of numbers by value: 01's number and place, and zeros for all else where the call is refused.
 // A slice is a pointer and a length. Nothing is kept after a call, and nothing allocated.
+#![tactic(auto)]
+
 ghost use Rattle.std.specs.Prelude.{◌≡◌};
 ghost use Rattle.verdict.specs.Calls.{is_master_playlist};
 ghost use Rattle.media.specs.Calls.{room_for};

@@ -1,4 +1,6 @@
 // Whether a media playlist's text may be written: refusals 1, 9 and 10 of the writer, before any byte is written.
+#![tactic(auto)]
+
 ghost use Rattle.std.specs.Prelude.{◌≡◌};
 ghost use Rattle.assembly.specs.Answers.{head_seen};
 ghost use Rattle.playlist.specs.Calls.{write_to};

@@ -1,5 +1,7 @@
 // The reading of a media playlist (parser.rs, `parse_media_playlist`): step by step to head and clips, which go to the lent tables.
 // One pass counts, so that a refused call has touched nothing; a second one fills.
+#![tactic(auto)]
+
 ghost use Rattle.std.specs.Prelude.{◌≡◌};
 ghost use Rattle.verdict.specs.Answers.{admission};
 ghost use Rattle.media.specs.Calls as rule;

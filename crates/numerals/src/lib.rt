@@ -1,5 +1,7 @@
 // Numbers and lengths as text at a place of a lent output: as many of their bytes as it still has room for. The room is tested once, for the longest of them;
 // near the output's end the text is made aside, and then as much of it is copied as has room.
+#![tactic(auto)]
+
 ghost use Rattle.std.specs.Prelude.{◌+◌, ◌<◌};
 ghost use Rattle.tables.specs.Layout.{second};
 ghost use Rattle.digits.specs.Digits.{number_text, fraction_text, length_text};

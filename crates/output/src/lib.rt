@@ -1,6 +1,8 @@
 // Buffered output: a lent buffer, how many of its bytes wait to be written, and whether a write failed. Each call takes that and answers the next one.
 // What waits is fixed byte for byte, and a failure stays. That a full buffer reaches the descriptor, and that a write which fails is told, no contract can say:
 // that shows only in runs.
+#![tactic(auto)]
+
 ghost use Rattle.std.specs.Prelude.{◌≡◌, true, false, [], ◌∷◌, ◌≤◌, ◌<◌, length, set};
 ghost use Rattle.digits.specs.Digits.{number_text};
 ghost use Rattle.output.specs.Waiting as rule;

@@ -1,5 +1,6 @@
 // Which clip is on at a tick, in the turns that a list is played (02, [2]): the last one whose start tick is not after it; since when, and for how long still.
 // The total is found in one pass over the clips, and the clip in a second that stops there.
+#![tactic(auto)]
 
 ghost use Rattle.std.specs.Prelude.{◌≡◌, ◌+◌, ◌*◌, ◌≤◌, ◌<◌};
 ghost use Rattle.tables.specs.Refusal.{given};

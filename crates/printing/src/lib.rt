@@ -1,4 +1,6 @@
 // Lines that several programs print: numbers by field and by line, and a refusal. Each function takes what waits in the output, and answers what waits after it.
+#![tactic(auto)]
+
 ghost use Rattle.std.specs.Prelude.{◌≡◌, true};
 ghost use Rattle.output.specs.Puts.{Puts, PutsFirst};
 ghost use Rattle.printing.specs.Lines as rule;

@@ -16,6 +16,8 @@
 //  28 start in ns         number of clips, clip words, clip
 //  29 all windows         text, number of clips, clip words, words of the table of windows
 // A number has eight bytes, the lowest first; a text or words are their count, a number, and then so many bytes or numbers.
+#![tactic(auto)]
+
 use input::{Input, Stop};
 use libc::{STDIN_FILENO, STDOUT_FILENO};
 use output::Waits;

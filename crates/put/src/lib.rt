@@ -1,5 +1,7 @@
 // Bytes and parts of a text at a place of a lent output, for who writes a text piece by piece: as many of them as the output still has room for. Each call
 // answers the place that it reached, and tests the room once. A writer that has measured its text loses nothing.
+#![tactic(auto)]
+
 ghost use Rattle.std.specs.Prelude.{cond, [], ◌∷◌};
 ghost use Rattle.text.specs.Answers.{span_of};
 ghost use Rattle.text.specs.Spans.{shown};

@@ -1,5 +1,7 @@
 // A clip and an unknown tag by value, out of their words: the way back from what a reading stored.
 // `clip_at` and `tag_at` answer for every table and every record: a word that the table does not have is 0.
+#![tactic(auto)]
+
 ghost use Rattle.std.specs.Prelude.{◌≡◌, ◌<◌};
 ghost use Rattle.text.specs.Nom.{span};
 ghost use Rattle.text.specs.Answers.{span_of, part_of};

@@ -1,6 +1,8 @@
 // Rule 9 of the writer: counts that fit, spans within the text, lengths with their bits, flags, zeros for what is absent, runs of tags that adjoin.
 // One pass over each table, and each function is one clause of the rule. A record's tests are joined by `&`: a table that is to be written passes them
 // all, so that none is worth a branch. The count of clips is tested before them, so that the table holds each clip k whole and no word needs a test.
+#![tactic(auto)]
+
 ghost use Rattle.std.specs.Prelude.{◌≡◌, ◌&&◌, List, ℕ, ◌*◌, ◌≤◌, ◌<◌, length};
 ghost use Rattle.text.specs.Spans.{span_fits};
 ghost use Rattle.tables.specs.Layout as layout;

@@ -1,5 +1,7 @@
 // Prefixes, and runs of bytes that pass a test: the three questions that a rule asks of the text, answered byte by byte.
 // Each function takes any text and any place, past the end too. Its contract is one equation with a rule of `text`.
+#![tactic(auto)]
+
 ghost use Rattle.std.specs.Prelude.{◌≡◌, [], ◌∷◌, ◌+◌, ◌≤◌, length, get_or};
 ghost use Rattle.text.specs.Nom.{is_digit, is_one_of, is_none_of, tagged, after_tag, run_end, span_or, is_space};
 ghost use Rattle.text.specs.Util as util;

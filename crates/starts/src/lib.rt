@@ -1,4 +1,5 @@
 // All starts of a turn in one pass, so that n clips cost n steps: a cursor by value that goes from clip to clip, and a lent table that is filled at once.
+#![tactic(auto)]
 
 pub mod table; // into a lent table
 

@@ -2,6 +2,8 @@
 // Known tags first, then unknown tags, comments and URIs.
 // Each function takes any text and any place. Its contract is one equation with a rule of `tags`. One that is handed the memory of MAP's lists promises it
 // where the memory is true of the text, and leaves it true.
+#![tactic(auto)]
+
 ghost use Rattle.std.specs.Prelude.{◌≡◌};
 ghost use Rattle.chains.specs.Inside.Kept.{Remembering};
 ghost use Rattle.tags.specs.Tags as rule;

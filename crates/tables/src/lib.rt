@@ -1,4 +1,5 @@
 // What all who use a lent table share: the layout of its records, counts and words that no number can overflow, and 01's refusals.
+#![tactic(auto)]
 
 ghost use Rattle.std.specs.Prelude.{◌≡◌};
 ghost use Rattle.tables.specs.Refusal.{number_of};

@@ -1,5 +1,7 @@
 // What a step of the reading may take (parser.rs, `media_playlist_tag` and `media_segment_tag`): the rules in `specs/`, a row for each known tag, their laws in
 // `proofs/`, and here the values that the answers of the crates above are made of. A tag that 01 leaves out is a value too; the reading refuses it.
+#![tactic(auto)]
+
 ghost use Rattle.std.specs.Prelude.{◌≡◌};
 ghost use Rattle.text.specs.Nom as nom;
 ghost use Rattle.tags.specs.Tags as rule;

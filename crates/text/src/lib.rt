@@ -1,5 +1,6 @@
 // What stands at a place of a playlist's text: the rules (nom's combinators; parser.rs, "Util" and "Basic tags"; RFC 3629) in `specs/`, their laws in
 // `proofs/`, and here the values that the answers of the floors above are made of. A rule that fails says why, and each answer carries the same reason.
+#![tactic(auto)]
 
 // A part of the text: from its first byte to the place after its last.
 #[derive(Drop)]

@@ -1,5 +1,7 @@
 // UTF-8 as RFC 3629, section 4, lays it out: a function for each of its names and a line for each of its rows, in its order.
 // Each takes any text and any place. The fast ways stand apart: past ASCII in `blocks`, past any alphabet in `characters`.
+#![tactic(auto)]
+
 ghost use Rattle.std.specs.Prelude.{◌≡◌, ◌+◌};
 ghost use Rattle.text.specs.Utf8 as rule;
 ghost use Rattle.text.specs.Utf8.{◌to◌};

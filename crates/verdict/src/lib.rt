@@ -1,5 +1,7 @@
 // The verdict (parser.rs, `contains_master_tag`): master playlist or media playlist, by the first tag that tells.
 // Also what every call on a text asks first: its size, its UTF-8, its first seven bytes.
+#![tactic(auto)]
+
 ghost use Rattle.std.specs.Prelude.{◌≡◌};
 ghost use Rattle.verdict.specs.Calls as rule;
 ghost use Rattle.verdict.specs.Answers.{admission, master_answer, verdict_seen};

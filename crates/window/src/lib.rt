@@ -1,4 +1,6 @@
 // The byte window of a clip: which part of its resource the clip's range names (RFC 8216, 4.3.2.2). Every text, table and number is answered.
+#![tactic(auto)]
+
 ghost use Rattle.std.specs.Prelude.{◌≡◌};
 ghost use Rattle.std.proofs.Math.Option.{some};
 ghost use Rattle.tables.specs.Refusal.{given};

@@ -1,4 +1,6 @@
 // Eight bytes of a text at once, as one number: where among them the first stands that may end a line, or that is one of four.
+#![tactic(auto)]
+
 ghost use Rattle.std.specs.Prelude.{◌≡◌, true, [], ◌∷◌, map, ℕ, ◌+◌, ◌*◌, ◌^◌, ◌≤◌, ◌<◌, length, take, drop, get_or};
 ghost use Rattle.text.specs.Nom.{bytes, is_none_of, run_end};
 ghost use Rattle.words.specs.Inside.Word.{bytes_of, mark, mark_of};

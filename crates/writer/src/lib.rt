@@ -1,5 +1,7 @@
 // Writing a media playlist (playlist.rs, `MediaPlaylist::write_to`) into a lent output: head, clips and end, line by line. Whether the text may be written is
 // known before a byte is, so that a refused call has touched nothing.
+#![tactic(auto)]
+
 ghost use Rattle.std.specs.Prelude.{◌≤◌, length};
 ghost use Rattle.assembly.specs.Answers.{head_seen};
 ghost use Rattle.put.specs.Put.{Puts};

@@ -1,4 +1,4 @@
--- `head_fits`: each arm by what its match tells; another text's span by what `span_fits_lem` ensures. Assumes nothing.
+-- `head_fits`: each arm by what its match tells; another text's span by what `span_fits` ensures. Assumes nothing.
 use borrow.Author.Rules.{rules}
 use Rattle.rule9.proofs.head_fits.Statement.{statement}
 use Rattle.rule9.proofs.head_fits.Tie as tie

@@ -1,4 +1,4 @@
--- `scan::starts_with`: where the tag would go past the text's end, whether it has bytes decides; else `same_bytes_lem`. Assumes nothing.
+-- `scan::starts_with`: where the tag would go past the text's end, whether it has bytes decides; else `same_bytes`. Assumes nothing.
 use native.Mathlib.Omega.{arith}
 use mathlib.Core.Path.{sym, ◌∙◌}
 use borrow.Author.Tests.{ne_eqb}

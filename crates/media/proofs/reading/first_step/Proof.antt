@@ -1,4 +1,4 @@
--- `first_step_lem` meets its contract: it is where `multispace0` ends. Assumes nothing.
+-- `first_step` meets its contract: it is where `multispace0` ends. Assumes nothing.
 use borrow.Author.Rules.{rules}
 use Rattle.media.specs.Calls.{first_step}
 use Rattle.media.proofs.reading.first_step.Statement.{statement}
