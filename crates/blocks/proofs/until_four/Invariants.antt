@@ -1,0 +1,11 @@
+use Prim.Native.Nat.{◌-◌, ◌≤◌}
+use mathlib.Core.Path.{◌≡◌}
+use mathlib.Core.List.{[], ◌∷◌}
+use Rattle.text.specs.Nom.{is_none_of, run_end}
+use Rattle.blocks.proofs.until_four.Given as goal
+
+abbrev pub invariant-loop-i : goal.invariant-loop-i
+invariant-loop-i l = (l.i ≤ l.near) × (run_end (is_none_of (l.a ∷ l.b ∷ l.c ∷ l.d ∷ [])) l.text l.at ≡ run_end (is_none_of (l.a ∷ l.b ∷ l.c ∷ l.d ∷ [])) l.text l.i)
+
+abbrev pub decreases-loop-i : goal.decreases-loop-i
+decreases-loop-i l = l.near - l.i

@@ -1,0 +1,18 @@
+-- `scan::after_tag`: what `starts_with` ensures; a tag that is there is within the text. Assumes nothing.
+use mathlib.Core.Path.{sym, ◌∙◌}
+use native.Mathlib.Omega.{arith}
+use Prim.Native.Nat.{◌-◌, ◌^◌}
+use Rattle.text.specs.Nom.{after_tag}
+use Rattle.text.proofs.Laws.{tagged_below}
+use Rattle.scan.proofs.after_tag.Goals as goal
+
+pub overflow_add-result : goal.overflow_add-result
+overflow_add-result c = omega (arith, tagged_below _ _ _ (2 ^ 64 - 1) (omega arith) (omega arith) (sym c.starts_with.ensures ∙ c.if-starts_with.true))
+
+pub returns-then-starts_with : goal.returns-then-starts_with
+unfolding after_tag
+returns-then-starts_with c = rw (sym c.starts_with.ensures ∙ c.if-starts_with.true)
+
+pub returns-else-starts_with : goal.returns-else-starts_with
+unfolding after_tag
+returns-else-starts_with c = rw (sym c.starts_with.ensures ∙ c.if-starts_with.false)

@@ -1,0 +1,24 @@
+-- `scan::until_four`: the run from here is the run from the start. Assumes nothing.
+use Prim.Native.Nat.{ℕ}
+use mathlib.Core.Path.{refl, sym, ◌∙◌, ap}
+use mathlib.Core.Bool.{not}
+use mathlib.Core.List.{List, [], ◌∷◌}
+use Rattle.text.specs.Nom.{is_none_of}
+use Rattle.text.proofs.Laws.{run_out, run_stop, run_step}
+use Rattle.scan.proofs.until_four.Goals as goal
+use Rattle.scan.proofs.until_four.Goals.{After-is_one_of_four}
+
+abbrev set : After-is_one_of_four → List ℕ
+set c = let a = c.before.before.before.before.before.args in a.a ∷ a.b ∷ a.c ∷ a.d ∷ []
+
+pub loop-i-init : goal.loop-i-init
+loop-i-init c = refl
+
+pub returns-then-is_one_of_four : goal.returns-then-is_one_of_four
+returns-then-is_one_of_four c = sym (c.loop-i.invariant ∙ run_stop (is_none_of (set (goal.at.returns-then-is_one_of_four c).After-is_one_of_four)) _ _ c.loop-i-test.true (ap not (sym c.is_one_of_four.ensures ∙ c.if-is_one_of_four.true)))
+
+pub loop-i-preserved : goal.loop-i-preserved
+loop-i-preserved c = c.loop-i.invariant ∙ run_step (is_none_of (set (goal.at.loop-i-preserved c).After-is_one_of_four)) _ _ c.loop-i-test.true (ap not (sym c.is_one_of_four.ensures ∙ c.if-is_one_of_four.false))
+
+pub returns : goal.returns
+returns c = sym (c.loop-i.invariant ∙ run_out _ _ _ c.loop-i-test.false)

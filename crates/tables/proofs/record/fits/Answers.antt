@@ -1,0 +1,6 @@
+-- `record::fits`: the count against the quotient is the rule's product against the length (`fits_quotient`). Assumes nothing.
+use Rattle.tables.proofs.Records.{fits_quotient}
+use Rattle.tables.proofs.record.fits.Goals as goal
+
+pub returns : goal.returns
+returns c = fits_quotient c.args.width c.args.count c.args.words.now c.requires
