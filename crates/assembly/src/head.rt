@@ -9,19 +9,19 @@ ghost use Rattle.assembly.specs.Answers.{head_seen};
 use leaves::basic_tags::PlaylistType;
 use tags::HeadTag;
 
-#[derive(Drop)]
+#[derive(Clone, Copy)]
 pub enum Version {
     Absent,
     Is(u64),
 }
 
-#[derive(Drop)]
+#[derive(Clone, Copy)]
 pub enum HeadType {
     Absent,
     Is(PlaylistType),
 }
 
-#[derive(Drop)]
+#[derive(Clone, Copy)]
 pub struct Head {
     pub version: Version,
     pub target_duration: u64,

@@ -10,7 +10,7 @@ pub mod words; // the words of a record
 pub mod making; // the clip in the making, as words
 
 // A clip by value: its URI, what its tags said, its first unknown tag and how many.
-#[derive(Drop)]
+#[derive(Clone, Copy)]
 pub struct Clip {
     pub uri: Span,
     pub segment: Segment,

@@ -19,7 +19,7 @@ use tables::layout;
 use tags::{ClipTag, Tag};
 use text::{Part, Span};
 
-#[derive(Drop)]
+#[derive(Clone, Copy)]
 pub struct Making {
     pub length: u64,
     pub title: Two,

@@ -2,13 +2,13 @@
 use attributes::ext_map::{Map, OptRange};
 use text::Part;
 
-#[derive(Drop)]
+#[derive(Clone, Copy)]
 pub enum SegmentMap {
     Absent,
     Is(Map),
 }
 
-#[derive(Drop)]
+#[derive(Clone, Copy)]
 pub struct Segment {
     pub length: u64,
     pub title: Part,

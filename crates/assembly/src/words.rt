@@ -15,7 +15,7 @@ use tables::layout;
 use text::Part;
 
 // A part's start and end, or a range's length and offset.
-#[derive(Drop)]
+#[derive(Clone, Copy)]
 pub struct Two {
     pub first: u64,
     pub second: u64,
@@ -60,7 +60,7 @@ pub(crate) fn range_words(r: OptRange) -> Two
     }
 }
 
-#[derive(Drop)]
+#[derive(Clone, Copy)]
 pub struct MapWords {
     pub uri_start: u64,
     pub uri_end: u64,

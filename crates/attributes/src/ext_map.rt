@@ -13,21 +13,21 @@ use leaves::util;
 use leaves::util::{ByteRange, ByteRangeRes};
 use text::{Span, Why};
 
-#[derive(Drop)]
+#[derive(Clone, Copy)]
 pub enum OptRange {
     Absent,
     Present(ByteRange),
 }
 
 // struct Map { uri: String, byte_range: Option<ByteRange>, other_attributes }, the last as the list's part of the text.
-#[derive(Drop)]
+#[derive(Clone, Copy)]
 pub struct Map {
     pub uri: Span,
     pub byte_range: OptRange,
     pub list: Span,
 }
 
-#[derive(Drop)]
+#[derive(Clone, Copy)]
 pub enum MapRes {
     Fail(Why),
     Ok(Map, usize),

@@ -9,7 +9,7 @@ use crate::pair::QuotedOrUnquoted;
 use text::Span;
 
 // What a list has under a name.
-#[derive(Drop)]
+#[derive(Clone, Copy)]
 pub enum Attr {
     Absent,
     Present(QuotedOrUnquoted),

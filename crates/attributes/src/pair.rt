@@ -6,13 +6,13 @@ ghost use Rattle.attributes.specs.Answers.{value_res, pair_res};
 
 use text::{Span, Why};
 
-#[derive(Drop)]
+#[derive(Clone, Copy)]
 pub enum QuotedOrUnquoted {
     Unquoted(Span),
     Quoted(Span),
 }
 
-#[derive(Drop)]
+#[derive(Clone, Copy)]
 pub enum ValueRes {
     Fail(Why),
     Ok(QuotedOrUnquoted, usize),
@@ -57,13 +57,13 @@ pub fn read_value(text: &[u8], at: usize) -> ValueRes
     }
 }
 
-#[derive(Drop)]
+#[derive(Clone, Copy)]
 pub struct Pair {
     pub name: Span,
     pub value: QuotedOrUnquoted,
 }
 
-#[derive(Drop)]
+#[derive(Clone, Copy)]
 pub enum PairRes {
     Fail(Why),
     Ok(Pair, usize),

@@ -11,7 +11,7 @@ use attributes::pair::PairRes;
 use text::{Span, Why};
 
 // A pair or none, and the names that are known then to make none.
-#[derive(Drop)]
+#[derive(Clone, Copy)]
 pub struct Tried {
     pub pair: PairRes,
     pub fails: Failing,

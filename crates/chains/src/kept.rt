@@ -12,7 +12,7 @@ use attributes::pair::QuotedOrUnquoted;
 use text::Span;
 
 // One pair of a list, the place behind it, and where the list ends. Without a value it is no chain.
-#[derive(Drop)]
+#[derive(Clone, Copy)]
 pub struct Chain {
     pub name: Span,
     pub value: Attr,
@@ -22,13 +22,13 @@ pub struct Chain {
 
 // Names that make no pair: from the place before `start` on, up to `end`; none where `start` is 0. Those in `dead` have no value behind their `=`, and behind
 // those in `none` there is no `=`.
-#[derive(Drop)]
+#[derive(Clone, Copy)]
 pub struct Failing {
     pub dead: Span,
     pub none: Span,
 }
 
-#[derive(Drop)]
+#[derive(Clone, Copy)]
 pub struct Memory {
     pub first: Chain,
     pub second: Chain,
@@ -38,7 +38,7 @@ pub struct Memory {
 // The words of a memory; behind them stands what is held of each chain's list. `specs/Kept.antt` has this number for the rules.
 pub const PLACE_WORDS: usize = 18;
 
-#[derive(Drop)]
+#[derive(Clone, Copy)]
 struct ValueWords {
     kind: u64,
     start: u64,

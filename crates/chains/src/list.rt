@@ -50,7 +50,7 @@ fn hold_later(kept: &[u64], from: usize, held: &mut [u64])
 }
 
 // Where a walk came to its end, and what it found to fail.
-#[derive(Drop)]
+#[derive(Clone, Copy)]
 struct Walked {
     end: usize,
     fails: Failing,

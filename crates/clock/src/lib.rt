@@ -24,7 +24,7 @@ pub const LAST_TURN: u64 = 999_999;
 pub const TURNS: u64 = LAST_TURN + 1;
 
 // A call's answer: 01's refusal, at place 0, or a number of ns or of ticks.
-#[derive(Drop)]
+#[derive(Clone, Copy)]
 pub enum Answer {
     Refused(Refusal),
     Given(u64),

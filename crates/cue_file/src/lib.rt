@@ -37,7 +37,7 @@ pub const LARGEST_URI: u64 = 65_535;
 pub const LARGEST_START: u64 = 1_000_000 * layout::SECOND;
 
 // A clip's start in ns, its URI's span in the file, and how many clips the file has; or why there is none.
-#[derive(Drop)]
+#[derive(Clone, Copy)]
 pub enum Found {
     Refused(Refusal),
     Given(u64, Span, usize),

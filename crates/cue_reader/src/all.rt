@@ -10,7 +10,7 @@ use tables::Refusal;
 use text::Span;
 
 // Where a pass stands: how many clips there are, the next one, and the place of its URI.
-#[derive(Drop)]
+#[derive(Clone, Copy)]
 pub struct Cues {
     pub clips: usize,
     pub clip: usize,
@@ -18,20 +18,20 @@ pub struct Cues {
 }
 
 // A clip's number, its start in ns, its URI's span in the file.
-#[derive(Drop)]
+#[derive(Clone, Copy)]
 pub struct Cue {
     pub clip: usize,
     pub start: u64,
     pub uri: Span,
 }
 
-#[derive(Drop)]
+#[derive(Clone, Copy)]
 pub enum Opened {
     Refused(Refusal),
     Given(Cues),
 }
 
-#[derive(Drop)]
+#[derive(Clone, Copy)]
 pub enum Step {
     Refused(Refusal),
     Done,

@@ -20,7 +20,7 @@ use text::Span;
 pub mod all; // all clips in one pass
 
 // How many clips a file has that was judged, or why it is refused.
-#[derive(Drop)]
+#[derive(Clone, Copy)]
 pub enum Clips {
     Refused(Refusal),
     Given(usize),

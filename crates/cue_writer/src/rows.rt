@@ -53,7 +53,7 @@ fn clip(out: &mut [u8], at: usize, words: &[u64], row: Row) -> usize
 }
 
 // Where the records stand: the cursor before the next clip, and the place of its record.
-#[derive(Drop)]
+#[derive(Clone, Copy)]
 struct Pass {
     starts: Starts,
     at: usize,

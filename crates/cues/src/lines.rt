@@ -24,7 +24,7 @@ fn cue(to: &mut [u8; ROOM], waits: Waits, file: &[u8], cue: Cue) -> Waits
 }
 
 // Where the printing stands: the cursor before the next clip, and what waits.
-#[derive(Drop)]
+#[derive(Clone, Copy)]
 struct Pass {
     cues: Cues,
     waits: Waits,

@@ -22,7 +22,7 @@ pub fn number_size(n: u64) -> usize
 }
 
 // The digits of a fraction, as a number, and on how many places they stand.
-#[derive(Drop)]
+#[derive(Clone, Copy)]
 struct Places {
     left: u64,
     size: usize,

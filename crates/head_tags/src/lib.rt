@@ -19,7 +19,7 @@ use text::Why;
 const LETTER_PLACE: usize = 7;
 
 // A number after a fixed text.
-#[derive(Drop)]
+#[derive(Clone, Copy)]
 enum NumberRes {
     Fail(Why),
     Ok(u64, usize),
@@ -39,7 +39,7 @@ fn number_after(text: &[u8], at: usize, fixed: &[u8]) -> NumberRes
 }
 
 // A tag of the head, and the place after it: `TagRes` without what only clips have.
-#[derive(Drop)]
+#[derive(Clone, Copy)]
 enum HeadRes {
     Fail(Why),
     Ok(HeadTag, usize),

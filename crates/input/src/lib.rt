@@ -12,7 +12,7 @@ pub mod whole; // an input that fits into memory, at once
 pub const ROOM: usize = 65_536;
 
 // Why nothing more can be taken: the input ended, a slice has more elements than the lent memory, a read failed.
-#[derive(Drop)]
+#[derive(Clone, Copy)]
 pub enum Stop {
     Not,
     Ended,
@@ -21,7 +21,7 @@ pub enum Stop {
 }
 
 // What of the buffer is still to be taken: from `at` to `end`.
-#[derive(Drop)]
+#[derive(Clone, Copy)]
 pub struct Input {
     pub at: usize,
     pub end: usize,
@@ -29,14 +29,14 @@ pub struct Input {
 }
 
 // A byte or a number, and the input after it.
-#[derive(Drop)]
+#[derive(Clone, Copy)]
 pub struct Taken {
     pub value: u64,
     pub rest: Input,
 }
 
 // How many elements of the lent memory were filled, and the input after them.
-#[derive(Drop)]
+#[derive(Clone, Copy)]
 pub struct Filled {
     pub count: usize,
     pub rest: Input,

@@ -2,7 +2,7 @@
 ghost use Rattle.std.specs.Prelude.{◌≤◌, length};
 
 // How many bytes came, and whether a read failed: `io::read_full` does not tell that from the input's end.
-#[derive(Drop)]
+#[derive(Clone, Copy)]
 pub struct Whole {
     pub count: usize,
     pub failed: bool,

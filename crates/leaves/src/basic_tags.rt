@@ -18,13 +18,13 @@ pub fn m3u_tag(text: &[u8], at: usize) -> PlaceRes
 }
 
 // struct ExtTag { tag: String, rest: Option<String> }
-#[derive(Drop)]
+#[derive(Clone, Copy)]
 pub struct ExtTag {
     pub tag: Span,
     pub rest: Part,
 }
 
-#[derive(Drop)]
+#[derive(Clone, Copy)]
 pub enum ExtTagRes {
     Fail(Why),
     Ok(ExtTag, usize),
@@ -77,14 +77,14 @@ pub fn comment_tag(text: &[u8], at: usize) -> PartRes
 }
 
 // enum MediaPlaylistType { Event, Vod, Other(String) }
-#[derive(Drop)]
+#[derive(Clone, Copy)]
 pub enum PlaylistType {
     Event,
     Vod,
     Other(Span),
 }
 
-#[derive(Drop)]
+#[derive(Clone, Copy)]
 pub enum PlaylistTypeRes {
     Fail(Why),
     Ok(PlaylistType, usize),

@@ -24,7 +24,7 @@ pub fn consume_line(text: &[u8], at: usize) -> SpanRes
 }
 
 // What the digits at a place write, with the place after them.
-#[derive(Drop)]
+#[derive(Clone, Copy)]
 pub enum Parsed {
     NoDigits,
     TooLarge(usize),
@@ -103,26 +103,26 @@ pub fn number(text: &[u8], at: usize) -> Parsed
 }
 
 // struct ByteRange { length: u64, offset: Option<u64> }
-#[derive(Drop)]
+#[derive(Clone, Copy)]
 pub enum Offset {
     Absent,
     At(u64),
 }
 
-#[derive(Drop)]
+#[derive(Clone, Copy)]
 pub struct ByteRange {
     pub length: u64,
     pub offset: Offset,
 }
 
-#[derive(Drop)]
+#[derive(Clone, Copy)]
 pub enum ByteRangeRes {
     Fail(Why),
     Ok(ByteRange, usize),
 }
 
 // An offset and the place after it, or none and the same place.
-#[derive(Drop)]
+#[derive(Clone, Copy)]
 struct Placed {
     offset: Offset,
     end: usize,

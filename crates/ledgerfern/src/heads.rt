@@ -10,7 +10,7 @@ use assembly::head::{HeadType, Version};
 use leaves::basic_tags::PlaylistType;
 use text::Span;
 
-#[derive(Drop)]
+#[derive(Clone, Copy)]
 pub enum HeadRes {
     NoHead,
     Is(head::Head),

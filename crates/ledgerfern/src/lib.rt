@@ -21,7 +21,7 @@ pub mod numbers; // the numbers of an answer
 pub mod heads; // a head from its numbers
 
 #[repr(C)]
-#[derive(Drop)]
+#[derive(Clone, Copy)]
 pub struct Verdict {
     pub number: u64,
     pub place: u64,
@@ -30,7 +30,7 @@ pub struct Verdict {
 
 // A head's eleven numbers. A mark is 1 or 0. The type is 0 absent, 1 EVENT, 2 VOD, 3 another text, which has a span.
 #[repr(C)]
-#[derive(Drop)]
+#[derive(Clone, Copy)]
 pub struct Head {
     pub version_present: u64,
     pub version: u64,
@@ -47,7 +47,7 @@ pub struct Head {
 
 // How many clips and kept unknown tags were stored, and where the reading stopped.
 #[repr(C)]
-#[derive(Drop)]
+#[derive(Clone, Copy)]
 pub struct Read {
     pub number: u64,
     pub place: u64,
@@ -59,7 +59,7 @@ pub struct Read {
 
 // How many clips and kept unknown tags the reader has to store.
 #[repr(C)]
-#[derive(Drop)]
+#[derive(Clone, Copy)]
 pub struct Room {
     pub number: u64,
     pub place: u64,
@@ -69,7 +69,7 @@ pub struct Room {
 
 // How many bytes were written.
 #[repr(C)]
-#[derive(Drop)]
+#[derive(Clone, Copy)]
 pub struct Written {
     pub number: u64,
     pub place: u64,
@@ -78,7 +78,7 @@ pub struct Written {
 
 // A number of ns or of ticks.
 #[repr(C)]
-#[derive(Drop)]
+#[derive(Clone, Copy)]
 pub struct Value {
     pub number: u64,
     pub place: u64,
@@ -87,7 +87,7 @@ pub struct Value {
 
 // A clip, in a turn.
 #[repr(C)]
-#[derive(Drop)]
+#[derive(Clone, Copy)]
 pub struct On {
     pub number: u64,
     pub place: u64,
@@ -97,7 +97,7 @@ pub struct On {
 
 // A clip in a turn, how many ticks ago it started, and how many are left until the next start.
 #[repr(C)]
-#[derive(Drop)]
+#[derive(Clone, Copy)]
 pub struct Playing {
     pub number: u64,
     pub place: u64,
@@ -109,7 +109,7 @@ pub struct Playing {
 
 // How many clips' starts were stored.
 #[repr(C)]
-#[derive(Drop)]
+#[derive(Clone, Copy)]
 pub struct Starts {
     pub number: u64,
     pub place: u64,
@@ -118,7 +118,7 @@ pub struct Starts {
 
 // The first byte of a clip's range and the place after its last one; without a range, zeros.
 #[repr(C)]
-#[derive(Drop)]
+#[derive(Clone, Copy)]
 pub struct Window {
     pub number: u64,
     pub place: u64,
@@ -129,7 +129,7 @@ pub struct Window {
 
 // How many clips' windows were stored.
 #[repr(C)]
-#[derive(Drop)]
+#[derive(Clone, Copy)]
 pub struct Windows {
     pub number: u64,
     pub place: u64,
@@ -138,7 +138,7 @@ pub struct Windows {
 
 // A clip of a cue file: its start in ns, the first byte of its URI in the file and the place after its last one; and how many clips the file has.
 #[repr(C)]
-#[derive(Drop)]
+#[derive(Clone, Copy)]
 pub struct Cue {
     pub number: u64,
     pub place: u64,

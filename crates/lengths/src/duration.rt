@@ -14,26 +14,26 @@ use text::{Part, Why};
 const SIDE_DIGITS: usize = 9;
 
 // A length in ns, or one with more digits on a side than that. The second is no failure: the tag reads, and refusal 6 tells of it.
-#[derive(Drop)]
+#[derive(Clone, Copy)]
 pub enum Length {
     Ns(u64),
     TooManyDigits,
 }
 
-#[derive(Drop)]
+#[derive(Clone, Copy)]
 pub enum LengthRes {
     Fail(Why),
     Ok(Length, usize),
 }
 
 // The digits on one side of the point: how many, and what they write. A value that no u64 holds is kept as 0: its digits are too many.
-#[derive(Drop)]
+#[derive(Clone, Copy)]
 struct Digits {
     value: u64,
     count: usize,
 }
 
-#[derive(Drop)]
+#[derive(Clone, Copy)]
 enum DigitsRes {
     Fail(Why),
     Ok(Digits, usize),
@@ -123,13 +123,13 @@ pub fn float(text: &[u8], at: usize) -> LengthRes
 }
 
 // SegmentTag::Extinf(f32, Option<String>)
-#[derive(Drop)]
+#[derive(Clone, Copy)]
 pub struct Extinf {
     pub duration: Length,
     pub title: Part,
 }
 
-#[derive(Drop)]
+#[derive(Clone, Copy)]
 pub enum ExtinfRes {
     Fail(Why),
     Ok(Extinf, usize),
@@ -159,7 +159,7 @@ pub fn duration_title_tag(text: &[u8], at: usize) -> ExtinfRes
 }
 
 // An EXTINF without its values: whether its length has too many digits, and the place after it. A pass that only counts needs no more.
-#[derive(Drop)]
+#[derive(Clone, Copy)]
 pub enum ExtinfEnd {
     Fail,
     Ok(bool, usize),

@@ -15,7 +15,7 @@ mod room; // whether the whole text has room
 mod most; // whether it has by far
 
 // What stands against writing: 01's refusal, at place 0, or nothing.
-#[derive(Drop)]
+#[derive(Clone, Copy)]
 pub enum Leave {
     Refused(Refusal),
     Granted,

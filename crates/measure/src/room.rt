@@ -13,7 +13,7 @@ use crate::size;
 use assembly::Clip;
 use assembly::head::Head;
 
-#[derive(Drop)]
+#[derive(Clone, Copy)]
 pub(crate) enum Room {
     Left(usize),
     Short,

@@ -18,7 +18,7 @@ pub mod state; // where a reading is and what it has counted
 pub mod reading; // the two passes
 
 // What is given: the head, how many clips and kept unknown tags there are, and where the reading stopped.
-#[derive(Drop)]
+#[derive(Clone, Copy)]
 pub struct Read {
     pub head: Head,
     pub clips: usize,
@@ -26,7 +26,7 @@ pub struct Read {
     pub stop: usize,
 }
 
-#[derive(Drop)]
+#[derive(Clone, Copy)]
 pub enum ParseAnswer {
     Refused(Refusal, usize),
     Given(Read),
@@ -71,7 +71,7 @@ pub fn parse_media_playlist(text: &[u8], clips: &mut [u64], tags: &mut [u64]) ->
 }
 
 // How much room a reading needs: so many clips and kept unknown tags there are.
-#[derive(Drop)]
+#[derive(Clone, Copy)]
 pub enum RoomAnswer {
     Refused(Refusal, usize),
     Given { clips: usize, tags: usize },

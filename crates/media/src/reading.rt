@@ -30,7 +30,7 @@ pub(crate) fn first_step(text: &[u8]) -> usize
 }
 
 // What a step of the first pass came to: the reading stops, or is refused, or goes on with the next counts, and perhaps with something told of the head.
-#[derive(Drop)]
+#[derive(Clone, Copy)]
 pub enum CountStep {
     Stop,
     Refused(Refusal),
@@ -83,7 +83,7 @@ impl Counts {
 }
 
 // What the first pass finds: a refusal at its `#`, or what there is to give.
-#[derive(Drop)]
+#[derive(Clone, Copy)]
 pub enum Counted {
     Refused(Refusal, usize),
     Read(Read),
@@ -116,7 +116,7 @@ pub(crate) fn count(text: &[u8], at: usize) -> Counted
 }
 
 // What a step of the second pass came to.
-#[derive(Drop)]
+#[derive(Clone, Copy)]
 pub enum Step {
     Stop,
     Next(State),

@@ -18,7 +18,7 @@ use lengths::duration::Extinf;
 use tags::Tag;
 
 // Where the next step begins; how many clips there are, how many unknown tags these have, and how many came since.
-#[derive(Drop)]
+#[derive(Clone, Copy)]
 pub struct Counts {
     pub at: usize,
     pub clips: usize,
@@ -27,7 +27,7 @@ pub struct Counts {
 }
 
 // The counts, and the clip in the making.
-#[derive(Drop)]
+#[derive(Clone, Copy)]
 pub struct State {
     pub counts: Counts,
     pub making: Making,

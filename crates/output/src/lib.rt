@@ -12,7 +12,7 @@ ghost use Rattle.output.specs.Puts.{Puts};
 pub const ROOM: usize = 65_536;
 
 // How many bytes of the buffer wait, and whether a write of a full one failed before.
-#[derive(Drop)]
+#[derive(Clone, Copy)]
 pub struct Waits {
     pub count: usize,
     pub failed: bool,

@@ -15,20 +15,20 @@ use tables::layout::SECOND;
 use tables::{Refusal, layout, record};
 
 // A clip, in a turn.
-#[derive(Drop)]
+#[derive(Clone, Copy)]
 pub struct Pair {
     pub turn: u64,
     pub clip: usize,
 }
 
-#[derive(Drop)]
+#[derive(Clone, Copy)]
 pub enum On {
     Refused(Refusal),
     Given(Pair),
 }
 
 // The clip that is on, how many ticks ago it started, and how many are left until the next start.
-#[derive(Drop)]
+#[derive(Clone, Copy)]
 pub struct Playing {
     pub turn: u64,
     pub clip: usize,
@@ -36,21 +36,21 @@ pub struct Playing {
     pub left: u64,
 }
 
-#[derive(Drop)]
+#[derive(Clone, Copy)]
 pub enum Played {
     Refused(Refusal),
     Given(Playing),
 }
 
 // A number of ns as whole turns and what is left.
-#[derive(Drop)]
+#[derive(Clone, Copy)]
 struct Turns {
     turn: u64,
     rest: u64,
 }
 
 // A clip, the lengths before it, and its own.
-#[derive(Drop)]
+#[derive(Clone, Copy)]
 struct Found {
     clip: usize,
     before: u64,
@@ -58,7 +58,7 @@ struct Found {
 }
 
 // A clip in a turn, the lengths before it, and its own.
-#[derive(Drop)]
+#[derive(Clone, Copy)]
 struct Spot {
     turn: u64,
     clip: usize,

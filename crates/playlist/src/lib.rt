@@ -5,7 +5,7 @@
 use tables::Refusal;
 
 // 01's refusal, at place 0, or how many bytes were written.
-#[derive(Drop)]
+#[derive(Clone, Copy)]
 pub enum WriteAnswer {
     Refused(Refusal),
     Written(usize),

@@ -35,7 +35,7 @@ pub fn refused(fd: i32, to: &mut [u8; ROOM], number: u64, place: usize) -> Waits
 }
 
 // What a program has to say at its end: the bytes that wait are for standard output or, where its input is refused, for standard error.
-#[derive(Drop)]
+#[derive(Clone, Copy)]
 pub struct Said {
     pub refused: bool,
     pub waits: Waits,

@@ -88,7 +88,7 @@ pub fn reader(
 }
 
 // A table as a record has it: how many entries it is said to hold, and how many words are lent; and the input after it.
-#[derive(Drop)]
+#[derive(Clone, Copy)]
 struct Table {
     entries: usize,
     words: usize,
@@ -109,7 +109,7 @@ fn take_table(input: Input, from: &mut [u8; input::ROOM], words: &mut [u64]) -> 
 }
 
 // A head as a record has it, whatever its numbers are; and the input after it.
-#[derive(Drop)]
+#[derive(Clone, Copy)]
 struct TakenHead {
     head: Head,
     input: Input,
@@ -216,7 +216,7 @@ pub fn writer(
 }
 
 // What follows the table in a record of a call over clips, and the input after it: a rate, a turn or a tick, a clip. What an op does not have is 0.
-#[derive(Drop)]
+#[derive(Clone, Copy)]
 struct Moment {
     rate: u64,
     at: u64,

@@ -31,14 +31,14 @@ const TEXT_ROOM: usize = 140_000;
 const WORD_ROOM: usize = 70_000;
 
 // Where a run stands: its input, and what of its output waits.
-#[derive(Drop)]
+#[derive(Clone, Copy)]
 pub struct State {
     pub input: Input,
     pub waits: Waits,
 }
 
 // After a record: the next state, or what waits with the last line.
-#[derive(Drop)]
+#[derive(Clone, Copy)]
 enum Step {
     Next(State),
     Last(Waits),

@@ -26,7 +26,7 @@ fn clip(to: &mut [u8; ROOM], waits: Waits, text: &[u8], words: &[u64], row: Row)
 }
 
 // Where the printing stands: the cursor before the next clip, and what waits.
-#[derive(Drop)]
+#[derive(Clone, Copy)]
 struct Pass {
     starts: Starts,
     waits: Waits,

@@ -11,7 +11,7 @@ use clock::Answer;
 use tables::{Refusal, layout, record};
 
 // Where a pass stands: the next clip, and the sum of the lengths before it. The other fields stay as `new` made them.
-#[derive(Drop)]
+#[derive(Clone, Copy)]
 pub struct Starts {
     pub clips: usize,
     pub rate: u64,
@@ -22,7 +22,7 @@ pub struct Starts {
 }
 
 // A clip's line in the turn sheet: its number, its start and length in ns, its start tick.
-#[derive(Drop)]
+#[derive(Clone, Copy)]
 pub struct Row {
     pub clip: usize,
     pub start: u64,
@@ -30,13 +30,13 @@ pub struct Row {
     pub tick: u64,
 }
 
-#[derive(Drop)]
+#[derive(Clone, Copy)]
 pub enum Opened {
     Refused(Refusal),
     Given(Starts),
 }
 
-#[derive(Drop)]
+#[derive(Clone, Copy)]
 pub enum Step {
     Refused(Refusal),
     Done,

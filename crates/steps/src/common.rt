@@ -10,7 +10,7 @@ use lengths::duration::{Extinf, ExtinfEnd, ExtinfRes};
 use text::{Span, SpanRes};
 
 // A line with its value, and the place after it.
-#[derive(Drop)]
+#[derive(Clone, Copy)]
 pub enum Line {
     Uri(Span, usize),
     Extinf(Extinf, usize),
@@ -18,14 +18,14 @@ pub enum Line {
 }
 
 // The same without the values: whether an EXTINF has too many digits, and the place after the line.
-#[derive(Drop)]
+#[derive(Clone, Copy)]
 pub enum LineEnd {
     Uri(usize),
     Extinf(bool, usize),
     Other,
 }
 
-#[derive(Drop)]
+#[derive(Clone, Copy)]
 enum Kind {
     Uri,
     Extinf,

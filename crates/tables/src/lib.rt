@@ -9,7 +9,7 @@ pub mod layout; // where each word of a record stands
 pub mod record; // the count fits, the words of a record, its flags
 
 // 01's table "Numbers given back", row by row, and the numbers that document 02's requests add.
-#[derive(Drop)]
+#[derive(Clone, Copy)]
 pub enum Refusal {
     TextTooLong,
     NotUtf8,
@@ -37,7 +37,7 @@ pub enum Refusal {
 }
 
 // How many records were laid into a lent table, or why none was.
-#[derive(Drop)]
+#[derive(Clone, Copy)]
 pub enum Laid {
     Refused(Refusal),
     Given(usize),

@@ -14,7 +14,7 @@ use lengths::duration::Extinf;
 use text::{Part, Span, Why};
 
 // What a tag says of the head.
-#[derive(Drop)]
+#[derive(Clone, Copy)]
 pub enum HeadTag {
     Version(u64),
     TargetDuration(u64),
@@ -27,7 +27,7 @@ pub enum HeadTag {
 }
 
 // What a tag says of the clip in the making.
-#[derive(Drop)]
+#[derive(Clone, Copy)]
 pub enum ClipTag {
     Timed(Extinf),
     Ranged(ByteRange),
@@ -36,7 +36,7 @@ pub enum ClipTag {
 }
 
 // Which of the tags that 01 leaves out.
-#[derive(Drop)]
+#[derive(Clone, Copy)]
 pub enum LeftOut {
     Start,
     Key,
@@ -44,7 +44,7 @@ pub enum LeftOut {
     DateRange,
 }
 
-#[derive(Drop)]
+#[derive(Clone, Copy)]
 pub enum Tag {
     Head(HeadTag),
     Clip(ClipTag),
@@ -54,7 +54,7 @@ pub enum Tag {
     LeftOut(LeftOut),
 }
 
-#[derive(Drop)]
+#[derive(Clone, Copy)]
 pub enum TagRes {
     Fail(Why),
     Ok(Tag, usize),

@@ -3,21 +3,21 @@
 #![tactic(auto)]
 
 // A part of the text: from its first byte to the place after its last.
-#[derive(Drop)]
+#[derive(Clone, Copy)]
 pub struct Span {
     pub start: usize,
     pub end: usize,
 }
 
 // A part that may be missing: the crate's Option<String>.
-#[derive(Drop)]
+#[derive(Clone, Copy)]
 pub enum Part {
     Absent,
     Present(Span),
 }
 
 // Why a rule fails: the first thing met.
-#[derive(Drop)]
+#[derive(Clone, Copy)]
 pub enum Why {
     OtherText,
     NoDigits,
@@ -33,19 +33,19 @@ pub enum Why {
 }
 
 // A rule's answer where its value is a part, perhaps a missing one, or nothing but the place after.
-#[derive(Drop)]
+#[derive(Clone, Copy)]
 pub enum SpanRes {
     Fail(Why),
     Ok(Span, usize),
 }
 
-#[derive(Drop)]
+#[derive(Clone, Copy)]
 pub enum PartRes {
     Fail(Why),
     Ok(Part, usize),
 }
 
-#[derive(Drop)]
+#[derive(Clone, Copy)]
 pub enum PlaceRes {
     Fail(Why),
     Ok(usize),

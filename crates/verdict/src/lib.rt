@@ -11,7 +11,7 @@ use tables::{Refusal, layout};
 pub mod lines; // line by line, until one tells
 mod quiet; // lines that say nothing
 
-#[derive(Drop)]
+#[derive(Clone, Copy)]
 pub enum Admission {
     Refused(Refusal, usize),
     Admitted,
@@ -42,7 +42,7 @@ pub fn verdict_of(text: &[u8]) -> lines::Verdict
     lines::verdict_from(text, 7)
 }
 
-#[derive(Drop)]
+#[derive(Clone, Copy)]
 pub enum MasterAnswer {
     Refused(Refusal, usize),
     Given(bool),

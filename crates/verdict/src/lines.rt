@@ -12,7 +12,7 @@ use leaves::util;
 use text::{SpanRes, Why};
 
 // A tag's kind (master: true), and the place after it.
-#[derive(Drop)]
+#[derive(Clone, Copy)]
 enum KindRes {
     Fail(Why),
     Ok(bool, usize),
@@ -168,13 +168,13 @@ fn tag_kind(text: &[u8], at: usize) -> KindRes
 }
 
 // What a line says, with the place of its `#`.
-#[derive(Drop)]
+#[derive(Clone, Copy)]
 pub enum Says {
     Nothing,
     Decides(bool, usize),
 }
 
-#[derive(Drop)]
+#[derive(Clone, Copy)]
 pub enum LineRes {
     Fail(Why),
     Ok(Says, usize),
@@ -204,7 +204,7 @@ pub fn is_master_playlist_tag_line(text: &[u8], at: usize) -> LineRes
     }
 }
 
-#[derive(Drop)]
+#[derive(Clone, Copy)]
 pub enum Verdict {
     Master(usize),
     Media,

@@ -15,7 +15,7 @@ use text::Span;
 pub const LARGEST_END: u64 = 18_446_744_073_709_551_615;
 
 // A refusal, at place 0; none, whose start and end are 0; or the first byte and the place after the last.
-#[derive(Drop)]
+#[derive(Clone, Copy)]
 pub enum Answer {
     Refused(Refusal),
     None,
@@ -23,7 +23,7 @@ pub enum Answer {
 }
 
 // Whether a call over a text and its clips may go on, or why not.
-#[derive(Drop)]
+#[derive(Clone, Copy)]
 pub enum Front {
     Refused(Refusal),
     Passed,

@@ -11,7 +11,7 @@ use tables::Refusal;
 use window::{Answer, Front};
 
 // Where a pass stands: the next clip, and the window of the one before it. The count stays as `new` made it.
-#[derive(Drop)]
+#[derive(Clone, Copy)]
 pub struct Windows {
     pub clips: usize,
     pub clip: usize,
@@ -19,19 +19,19 @@ pub struct Windows {
 }
 
 // A clip's number, and what the call for it answers.
-#[derive(Drop)]
+#[derive(Clone, Copy)]
 pub struct Row {
     pub clip: usize,
     pub window: Answer,
 }
 
-#[derive(Drop)]
+#[derive(Clone, Copy)]
 pub enum Opened {
     Refused(Refusal),
     Given(Windows),
 }
 
-#[derive(Drop)]
+#[derive(Clone, Copy)]
 pub enum Step {
     Refused(Refusal),
     Done,
