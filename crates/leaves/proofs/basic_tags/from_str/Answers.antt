@@ -1,0 +1,12 @@
+-- `basic_tags::from_str`: what `spells` ensures of the two words. Assumes nothing.
+use mathlib.Core.Path.{sym, ◌∙◌}
+use Rattle.leaves.proofs.basic_tags.from_str.Goals as goal
+
+pub returns-then-spells : goal.returns-then-spells
+returns-then-spells c = rw (sym c.spells.ensures ∙ c.if-spells.true)
+
+pub returns-then-spells-2 : goal.returns-then-spells-2
+returns-then-spells-2 c = rw (sym c.spells.ensures ∙ c.if-spells.false, sym c.spells-2.ensures ∙ c.if-spells-2.true)
+
+pub returns : goal.returns
+returns c = rw (sym c.spells.ensures ∙ c.if-spells.false, sym c.spells-2.ensures ∙ c.if-spells-2.false)
