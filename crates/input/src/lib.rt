@@ -9,6 +9,7 @@ ghost use Rattle.input.specs.Held as rule;
 use std::io::Read;
 
 pub mod whole; // an input that fits into memory, at once
+pub mod watched; // a reader that keeps why it failed
 
 // What a buffer holds.
 pub const ROOM: usize = 65_536;

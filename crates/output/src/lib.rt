@@ -10,6 +10,8 @@ ghost use Rattle.output.specs.Puts.{Puts};
 
 use std::io::Write;
 
+pub mod watched; // a writer that keeps why it failed
+
 // What a buffer holds.
 pub const ROOM: usize = 65_536;
 
