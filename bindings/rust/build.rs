@@ -1,4 +1,4 @@
-//! Says where `libledgerfern.a` is: in the folder that LEDGERFERN_LIB names, or where `rt staticlib ledgerfern` writes it.
+//! Says where `libledgerfern.a` is: in the folder that LEDGERFERN_LIB names, or where `tools/archive` writes it.
 use std::env;
 use std::path::PathBuf;
 

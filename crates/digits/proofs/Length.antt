@@ -1,7 +1,7 @@
 -- A length's digits: those of its fraction one by one, without its trailing zeros, how many there are, and that they read back. Assumes nothing.
 use mathlib.Core.Path.{◌≡◌, refl, sym, ◌∙◌, ap}
 use mathlib.Core.Bool.{Bool, true, false, cond}
-use mathlib.Core.List.{List, [], ◌∷◌, ◌++◌}
+use mathlib.Core.List.{List, [], ◌∷◌}
 use Prim.Native.Nat.{ℕ, suc, zero, ◌+◌, ◌-◌, ◌*◌, ◌/◌, ◌%◌, ◌^◌, ◌≤◌, ◌<◌}
 use native.Mathlib.Nat.{div-lt_iff_lt-mul, div-add-mod', mul-div-mul_right, mod-lt, mod-mod_of_dvd, pow-suc, pow-succ', dvd-mul_left, sub-zero}
 use native.Mathlib.Omega.{arith}

@@ -1,4 +1,4 @@
-// The face of the library: every public call under its C name, for C and for Rust (include/ledgerfern.h, bindings/rust).
+// The face of the library: every public call under its C name. `ledgerfern_c` exports them for C and for Rust (include/ledgerfern.h, bindings/rust).
 // An answer is a struct of numbers by value: 01's number and place, and zeros for all else where the call is refused.
 // A slice is a pointer and a length. Nothing is kept after a call, and nothing allocated.
 #![tactic(auto)]
@@ -149,24 +149,21 @@ pub struct Cue {
 }
 
 // Whether a text is a master playlist.
-#[unsafe(no_mangle)]
-pub extern "C" fn ledgerfern_verdict(text: &[u8]) -> Verdict
+pub fn ledgerfern_verdict(text: &[u8]) -> Verdict
     ensures { result ≡ verdict_numbers (is_master_playlist text.now) }
 {
     numbers::of_verdict(verdict::is_master_playlist(text))
 }
 
 // Reads a media playlist into the two lent tables. A refused call leaves both as they were.
-#[unsafe(no_mangle)]
-pub extern "C" fn ledgerfern_read(text: &[u8], clips: &mut [u64], tags: &mut [u64]) -> Read
+pub fn ledgerfern_read(text: &[u8], clips: &mut [u64], tags: &mut [u64]) -> Read
     ensures { ReadAs text.now clips.old tags.old clips.new tags.new result }
 {
     numbers::of_read(media::parse_media_playlist(text, clips, tags))
 }
 
 // How many records the two tables of the reader need to have room for: it refuses what the reader does, but for the tables.
-#[unsafe(no_mangle)]
-pub extern "C" fn ledgerfern_room(text: &[u8]) -> Room
+pub fn ledgerfern_room(text: &[u8]) -> Room
     ensures { result ≡ room_numbers (room_for text.now) }
 {
     numbers::of_room(media::room(text))
@@ -174,8 +171,7 @@ pub extern "C" fn ledgerfern_room(text: &[u8]) -> Room
 
 // Writes a playlist of a head, clips and unknown tags into the lent output. Numbers that no head has break rule 9; a text that is too long comes first.
 // A refused call leaves the output as it was.
-#[unsafe(no_mangle)]
-pub extern "C" fn ledgerfern_write(
+pub fn ledgerfern_write(
     text: &[u8],
     head: Head,
     clip_count: usize,
@@ -196,24 +192,21 @@ pub extern "C" fn ledgerfern_write(
 }
 
 // All lengths together, in ns.
-#[unsafe(no_mangle)]
-pub extern "C" fn ledgerfern_total(clip_count: usize, clips: &[u64]) -> Value
+pub fn ledgerfern_total(clip_count: usize, clips: &[u64]) -> Value
     ensures { result ≡ value_numbers (clock.total clips.now clip_count) }
 {
     numbers::of_value(clock::total(clips, clip_count))
 }
 
 // The start of a clip within its turn, in ns.
-#[unsafe(no_mangle)]
-pub extern "C" fn ledgerfern_start_ns(clip_count: usize, clips: &[u64], clip: usize) -> Value
+pub fn ledgerfern_start_ns(clip_count: usize, clips: &[u64], clip: usize) -> Value
     ensures { result ≡ value_numbers (clock.start_ns clips.now clip_count clip) }
 {
     numbers::of_value(clock::start_ns(clips, clip_count, clip))
 }
 
 // The tick at which a clip starts in a turn.
-#[unsafe(no_mangle)]
-pub extern "C" fn ledgerfern_start_tick(
+pub fn ledgerfern_start_tick(
     clip_count: usize,
     clips: &[u64],
     rate: u64,
@@ -226,8 +219,7 @@ pub extern "C" fn ledgerfern_start_tick(
 }
 
 // A clip's ticks in a turn: the next start minus its own.
-#[unsafe(no_mangle)]
-pub extern "C" fn ledgerfern_clip_ticks(
+pub fn ledgerfern_clip_ticks(
     clip_count: usize,
     clips: &[u64],
     rate: u64,
@@ -240,8 +232,7 @@ pub extern "C" fn ledgerfern_clip_ticks(
 }
 
 // All starts of a turn into the lent table, two words a clip: in ns within the turn, and in ticks. A refused call leaves it as it was.
-#[unsafe(no_mangle)]
-pub extern "C" fn ledgerfern_starts(
+pub fn ledgerfern_starts(
     clip_count: usize,
     clips: &[u64],
     rate: u64,
@@ -254,16 +245,14 @@ pub extern "C" fn ledgerfern_starts(
 }
 
 // Which clip is on at a tick, and in which turn.
-#[unsafe(no_mangle)]
-pub extern "C" fn ledgerfern_clip_at(clip_count: usize, clips: &[u64], rate: u64, tick: u64) -> On
+pub fn ledgerfern_clip_at(clip_count: usize, clips: &[u64], rate: u64, tick: u64) -> On
     ensures { result ≡ on_numbers (playing.clip_at clips.now clip_count rate tick) }
 {
     numbers::of_on(playing::clip_at(clips, clip_count, rate, tick))
 }
 
 // The same, with the ticks since its start and those left until the next.
-#[unsafe(no_mangle)]
-pub extern "C" fn ledgerfern_playing_at(
+pub fn ledgerfern_playing_at(
     clip_count: usize,
     clips: &[u64],
     rate: u64,
@@ -275,8 +264,7 @@ pub extern "C" fn ledgerfern_playing_at(
 }
 
 // The byte window of a clip.
-#[unsafe(no_mangle)]
-pub extern "C" fn ledgerfern_window(
+pub fn ledgerfern_window(
     text: &[u8],
     clip_count: usize,
     clips: &[u64],
@@ -288,8 +276,7 @@ pub extern "C" fn ledgerfern_window(
 }
 
 // The windows of all clips into the lent table, four words a clip: what the call for that clip gives, without the place. A refused call leaves it as it was.
-#[unsafe(no_mangle)]
-pub extern "C" fn ledgerfern_windows(
+pub fn ledgerfern_windows(
     text: &[u8],
     clip_count: usize,
     clips: &[u64],
@@ -301,8 +288,7 @@ pub extern "C" fn ledgerfern_windows(
 }
 
 // The cue file of a text's clips into the lent output. A refused call leaves it as it was.
-#[unsafe(no_mangle)]
-pub extern "C" fn ledgerfern_cue_write(
+pub fn ledgerfern_cue_write(
     text: &[u8],
     clip_count: usize,
     clips: &[u64],
@@ -314,8 +300,7 @@ pub extern "C" fn ledgerfern_cue_write(
 }
 
 // A clip of a cue file, which is judged whole.
-#[unsafe(no_mangle)]
-pub extern "C" fn ledgerfern_cue_read(file: &[u8], clip: usize) -> Cue
+pub fn ledgerfern_cue_read(file: &[u8], clip: usize) -> Cue
     ensures { result ≡ cue_numbers (cue_read version1 file.now clip) }
 {
     numbers::of_cue(cue_reader::read(file, clip))

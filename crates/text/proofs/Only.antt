@@ -1,8 +1,6 @@
 -- An answer is determined: no second one meets a contract, since from what an answer says (its view) there is a way back to it. Assumes nothing.
 use mathlib.Core.Path.{◌≡◌, refl, sym, ◌∙◌, ap}
 use mathlib.Core.Option.{Option, none, some}
-use Prim.Native.Nat.{ℕ, zero, suc, ◌-◌}
-use native.Mathlib.Omega.{arith}
 use Rattle.text.specs.declared.Why as whyᵈ
 use Rattle.text.specs.declared.Why.TheVariants as whyᵛ
 use Rattle.text.specs.declared.Span as spanᵈ

@@ -1,7 +1,6 @@
 -- `record::edge_clip`: word after word is laid (`Filling`). The measure is how many are left. Assumes nothing.
 use borrow.Author.Rules.{rules}
 use mathlib.Core.Path.{refl}
-use Rattle.tables.specs.Table.{clip_word}
 use Rattle.tables.proofs.Listed.{filling_none, filling_more, filling_end}
 use Rattle.tables.proofs.record.edge_clip.Goals as goal
 
