@@ -6,7 +6,10 @@ ghost use Rattle.std.specs.Prelude.{◌≡◌, true, ◌≤◌, length};
 ghost use Rattle.input.specs.Held.{TakenFrom};
 ghost use Rattle.input.specs.Held as rule;
 
+use std::io::Read;
+
 pub mod whole; // an input that fits into memory, at once
+pub mod watched; // a reader that keeps why it failed
 
 // What a buffer holds.
 pub const ROOM: usize = 65_536;
@@ -87,27 +90,23 @@ fn low_byte(value: u64) -> u8 {
 }
 
 // The first byte of the buffer filled anew.
-fn read_byte(input: Input, fd: i32, buffer: &mut [u8; ROOM]) -> Taken {
-    let got = libc::read(fd, buffer);
-    if got < 0 {
-        return Taken {
+fn read_byte<R: Read>(input: Input, from: &mut R, buffer: &mut [u8; ROOM]) -> Taken {
+    match from.read(buffer) {
+        Err(_) => Taken {
             value: 0,
             rest: input.stopped(Stop::ReadFailed),
-        };
-    }
-    let count = io::count(got, buffer);
-    if count == 0 {
-        return Taken {
+        },
+        Ok(0) => Taken {
             value: 0,
             rest: input.stopped(Stop::Ended),
-        };
-    }
-    Taken {
-        value: wide(buffer[0]),
-        rest: Input {
-            at: 1,
-            end: count,
-            stop: Stop::Not,
+        },
+        Ok(count) => Taken {
+            value: wide(buffer[0]),
+            rest: Input {
+                at: 1,
+                end: count,
+                stop: Stop::Not,
+            },
         },
     }
 }
@@ -129,7 +128,7 @@ fn holds(input: Input, count: usize) -> bool
     count <= input.end - input.at
 }
 
-pub fn byte(input: Input, fd: i32, buffer: &mut [u8; ROOM]) -> Taken
+pub fn byte<R: Read>(input: Input, from: &mut R, buffer: &mut [u8; ROOM]) -> Taken
     ensures { rule.holds 1 input ≡ true → TakenFrom 1 input buffer.old buffer.new result }
 {
     let at = input.at;
@@ -152,7 +151,7 @@ pub fn byte(input: Input, fd: i32, buffer: &mut [u8; ROOM]) -> Taken
             rest: input,
         };
     }
-    read_byte(input, fd, buffer)
+    read_byte(input, from, buffer)
 }
 
 // Four bytes of the buffer, the lowest first.
@@ -178,12 +177,12 @@ fn number_at(buffer: &[u8; ROOM], at: usize) -> u64
 }
 
 // The same byte by byte: a number that goes on in the next piece of the input.
-fn number_by_bytes(input: Input, fd: i32, buffer: &mut [u8; ROOM]) -> Taken {
+fn number_by_bytes<R: Read>(input: Input, from: &mut R, buffer: &mut [u8; ROOM]) -> Taken {
     let mut rest = input;
     let mut value = 0u64;
     let mut k = 0usize;
     while k < 8 {
-        let next = byte(rest, fd, buffer);
+        let next = byte(rest, from, buffer);
         value = value >> 8 | next.value << 56;
         rest = next.rest;
         k += 1;
@@ -196,7 +195,7 @@ fn number_by_bytes(input: Input, fd: i32, buffer: &mut [u8; ROOM]) -> Taken {
 }
 
 // A number of 64 bits, its lowest byte first.
-pub fn number(input: Input, fd: i32, buffer: &mut [u8; ROOM]) -> Taken
+pub fn number<R: Read>(input: Input, from: &mut R, buffer: &mut [u8; ROOM]) -> Taken
     ensures { rule.holds 8 input ≡ true → TakenFrom 8 input buffer.old buffer.new result }
 {
     let at = input.at;
@@ -213,14 +212,19 @@ pub fn number(input: Input, fd: i32, buffer: &mut [u8; ROOM]) -> Taken
             },
         };
     }
-    number_by_bytes(input, fd, buffer)
+    number_by_bytes(input, from, buffer)
 }
 
 // A slice of numbers: their count, then the numbers, to the front of the lent words.
-pub fn numbers(input: Input, fd: i32, buffer: &mut [u8; ROOM], words: &mut [u64]) -> Filled
+pub fn numbers<R: Read>(
+    input: Input,
+    from: &mut R,
+    buffer: &mut [u8; ROOM],
+    words: &mut [u64],
+) -> Filled
     ensures { result.count ≤ length words.new }
 {
-    let first = number(input, fd, buffer);
+    let first = number(input, from, buffer);
     let count = first.value as usize;
     let mut rest = first.rest;
     if words.len() < count {
@@ -231,7 +235,7 @@ pub fn numbers(input: Input, fd: i32, buffer: &mut [u8; ROOM], words: &mut [u64]
     }
     let mut k = 0usize;
     while k < count {
-        let next = number(rest, fd, buffer);
+        let next = number(rest, from, buffer);
         words[k] = next.value;
         rest = next.rest;
         k += 1;
@@ -240,10 +244,15 @@ pub fn numbers(input: Input, fd: i32, buffer: &mut [u8; ROOM], words: &mut [u64]
 }
 
 // A slice of bytes: their count, then the bytes, to the front of the lent text.
-pub fn bytes(input: Input, fd: i32, buffer: &mut [u8; ROOM], text: &mut [u8]) -> Filled
+pub fn bytes<R: Read>(
+    input: Input,
+    from: &mut R,
+    buffer: &mut [u8; ROOM],
+    text: &mut [u8],
+) -> Filled
     ensures { result.count ≤ length text.new }
 {
-    let first = number(input, fd, buffer);
+    let first = number(input, from, buffer);
     let count = first.value as usize;
     let mut rest = first.rest;
     if text.len() < count {
@@ -254,7 +263,7 @@ pub fn bytes(input: Input, fd: i32, buffer: &mut [u8; ROOM], text: &mut [u8]) ->
     }
     let mut k = 0usize;
     while k < count {
-        let next = byte(rest, fd, buffer);
+        let next = byte(rest, from, buffer);
         text[k] = low_byte(next.value);
         rest = next.rest;
         k += 1;

@@ -49,7 +49,7 @@ module _ {buffer₀ buffer₁ buffer₂ xs ys : List ℕ} {s r t : Waits} where
   puts_then p q = record {
     waiting = q.waiting ∙ (ap (λ (w : List ℕ). with_bytes w ys) p.waiting ∙ sym (bytes_append (take s.count buffer₀) xs ys));
     stays = λ h. q.stays (p.stays h);
-    room-left = λ h.
+    room_left = λ h.
         let n = length-append xs ys in
         let u = p.room_left (omega (arith, n, h)) in
         let v = q.room_left (omega (arith, n, h, u.0)) in
@@ -63,7 +63,7 @@ puts_as e p = rw e at p
 pub puts_first : {buffer₀ buffer bytes : List ℕ} {s r : Waits} → (s.count ≡ 0) × (s.failed ≡ false) → Puts buffer₀ buffer s r bytes → PutsFirst buffer r bytes
 puts_first {buffer₀} {buffer} {bytes} {s} {r} e p = record {
   waiting = p.waiting ∙ ap (λ (n : ℕ). with_bytes (take n buffer₀) bytes) e.0;
-  room-left = λ h. let u = p.room_left (omega (arith, e.0, h)) in (omega (arith, e.0, u.0), u.1 ∙ e.1);
+  room_left = λ h. let u = p.room_left (omega (arith, e.0, h)) in (omega (arith, e.0, u.0), u.1 ∙ e.1);
 }
 
 pub first_none : (buffer : List ℕ) (r : Waits) → (r.count ≡ 0) × (r.failed ≡ false) → PutsFirst buffer r []

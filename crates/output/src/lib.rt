@@ -8,6 +8,10 @@ ghost use Rattle.digits.specs.Digits.{number_text};
 ghost use Rattle.output.specs.Waiting as rule;
 ghost use Rattle.output.specs.Puts.{Puts};
 
+use std::io::Write;
+
+pub mod watched; // a writer that keeps why it failed
+
 // What a buffer holds.
 pub const ROOM: usize = 65_536;
 
@@ -31,31 +35,31 @@ impl Waits {
 }
 
 // The first bytes of the buffer, or all where it has no more. It takes a slice, of which a part can be lent on.
-fn write_front(fd: i32, buffer: &[u8], count: usize) -> bool {
+fn write_front<W: Write>(out: &mut W, buffer: &[u8], count: usize) -> bool {
     if count < buffer.len() {
-        return io::write_all(fd, &buffer[0..count]);
+        return out.write_all(&buffer[0..count]).is_ok();
     }
-    io::write_all(fd, buffer)
+    out.write_all(buffer).is_ok()
 }
 
 // Writes what waits, and answers whether all went: this and what was written before it.
-pub fn flush(fd: i32, buffer: &[u8; ROOM], waits: Waits) -> bool
+pub fn flush<W: Write>(out: &mut W, buffer: &[u8; ROOM], waits: Waits) -> bool
     ensures { waits.failed ≡ true → result ≡ false }
 {
     if waits.failed {
         return false;
     }
-    write_front(fd, buffer, waits.count)
+    write_front(out, buffer, waits.count)
 }
 
 // Writes a full buffer, and answers whether a write failed by now. After one that failed nothing is written: what arrives is a beginning of what was put.
-fn write_full(fd: i32, buffer: &[u8], failed: bool) -> bool
+fn write_full<W: Write>(out: &mut W, buffer: &[u8], failed: bool) -> bool
     ensures { failed ≡ true → result ≡ true }
 {
     if failed {
         return true;
     }
-    !io::write_all(fd, buffer)
+    out.write_all(buffer).is_err()
 }
 
 // The array comes as a slice, since a proof knows the length of what is lent as one.
@@ -67,7 +71,7 @@ fn store(buffer: &mut [u8], at: usize, byte: u8)
 }
 
 // One byte more; a full buffer is written out first.
-pub fn put_byte(fd: i32, buffer: &mut [u8; ROOM], waits: Waits, byte: u8) -> Waits
+pub fn put_byte<W: Write>(out: &mut W, buffer: &mut [u8; ROOM], waits: Waits, byte: u8) -> Waits
     ensures fits { result.count ≤ rule.room }
     ensures puts { Puts buffer.old buffer.new waits result (byte ∷ []) }
 {
@@ -80,27 +84,32 @@ pub fn put_byte(fd: i32, buffer: &mut [u8; ROOM], waits: Waits, byte: u8) -> Wai
             failed: waits.failed,
         };
     }
-    let failed = write_full(fd, buffer, waits.failed);
+    let failed = write_full(out, buffer, waits.failed);
     buffer[0] = byte;
     Waits { count: 1, failed }
 }
 
-pub fn put_bytes(fd: i32, buffer: &mut [u8; ROOM], waits: Waits, bytes: &[u8]) -> Waits
+pub fn put_bytes<W: Write>(
+    out: &mut W,
+    buffer: &mut [u8; ROOM],
+    waits: Waits,
+    bytes: &[u8],
+) -> Waits
     ensures fits { waits.count ≤ rule.room → result.count ≤ rule.room }
     ensures puts { Puts buffer.old buffer.new waits result bytes.now }
 {
     let mut waits = waits;
     let mut k = 0usize;
     while k < bytes.len() {
-        waits = put_byte(fd, buffer, waits, bytes[k]);
+        waits = put_byte(out, buffer, waits, bytes[k]);
         k += 1;
     }
     waits
 }
 
 // A part of a text, or nothing where the text has no such part.
-pub fn put_part(
-    fd: i32,
+pub fn put_part<W: Write>(
+    out: &mut W,
     buffer: &mut [u8; ROOM],
     waits: Waits,
     text: &[u8],
@@ -116,17 +125,22 @@ pub fn put_part(
     if end < start {
         return waits;
     }
-    put_bytes(fd, buffer, waits, &text[start..end])
+    put_bytes(out, buffer, waits, &text[start..end])
 }
 
 // A number in decimal: first its quotient by ten, then its last digit.
-pub fn put_number(fd: i32, buffer: &mut [u8; ROOM], waits: Waits, number: u64) -> Waits
+pub fn put_number<W: Write>(
+    out: &mut W,
+    buffer: &mut [u8; ROOM],
+    waits: Waits,
+    number: u64,
+) -> Waits
     ensures fits { result.count ≤ rule.room }
     ensures puts { Puts buffer.old buffer.new waits result (number_text number) }
 {
     if number < 10 {
-        return put_byte(fd, buffer, waits, (48 + number) as u8);
+        return put_byte(out, buffer, waits, (48 + number) as u8);
     }
-    let front = put_number(fd, buffer, waits, number / 10);
-    put_byte(fd, buffer, front, (48 + number % 10) as u8)
+    let front = put_number(out, buffer, waits, number / 10);
+    put_byte(out, buffer, front, (48 + number % 10) as u8)
 }

@@ -5,33 +5,33 @@ ghost use Rattle.std.specs.Prelude.{◌≡◌, true};
 ghost use Rattle.output.specs.Puts.{Puts, PutsFirst};
 ghost use Rattle.printing.specs.Lines as rule;
 
-use libc::{STDERR_FILENO, STDOUT_FILENO};
 use output::{ROOM, Waits};
+use std::io::Write;
 
 // A number that ends a line.
-pub fn number_line(fd: i32, to: &mut [u8; ROOM], waits: Waits, number: u64) -> Waits
+pub fn number_line<W: Write>(out: &mut W, to: &mut [u8; ROOM], waits: Waits, number: u64) -> Waits
     ensures { Puts to.old to.new waits result (rule.number_line number) }
 {
-    let waits = output::put_number(fd, to, waits, number);
-    output::put_byte(fd, to, waits, b'\n')
+    let waits = output::put_number(out, to, waits, number);
+    output::put_byte(out, to, waits, b'\n')
 }
 
 // A number that more fields follow.
-pub fn field(fd: i32, to: &mut [u8; ROOM], waits: Waits, number: u64) -> Waits
+pub fn field<W: Write>(out: &mut W, to: &mut [u8; ROOM], waits: Waits, number: u64) -> Waits
     ensures { Puts to.old to.new waits result (rule.field number) }
 {
-    let waits = output::put_number(fd, to, waits, number);
-    output::put_byte(fd, to, waits, b'\t')
+    let waits = output::put_number(out, to, waits, number);
+    output::put_byte(out, to, waits, b'\t')
 }
 
 // The only line of a refused input.
-pub fn refused(fd: i32, to: &mut [u8; ROOM], number: u64, place: usize) -> Waits
+pub fn refused<W: Write>(out: &mut W, to: &mut [u8; ROOM], number: u64, place: usize) -> Waits
     ensures { PutsFirst to.new result (rule.refused_line number place) }
 {
-    let waits = output::put_bytes(fd, to, Waits::none(), b"refused ");
-    let waits = output::put_number(fd, to, waits, number);
-    let waits = output::put_bytes(fd, to, waits, b" at ");
-    number_line(fd, to, waits, place as u64)
+    let waits = output::put_bytes(out, to, Waits::none(), b"refused ");
+    let waits = output::put_number(out, to, waits, number);
+    let waits = output::put_bytes(out, to, waits, b" at ");
+    number_line(out, to, waits, place as u64)
 }
 
 // What a program has to say at its end: the bytes that wait are for standard output or, where its input is refused, for standard error.
@@ -42,19 +42,19 @@ pub struct Said {
 }
 
 // A refusal, and nothing for standard output.
-pub fn refusal(to: &mut [u8; ROOM], number: u64, place: usize) -> Said
+pub fn refusal<E: Write>(err: &mut E, to: &mut [u8; ROOM], number: u64, place: usize) -> Said
     ensures { (result.refused ≡ true) × PutsFirst to.new result.waits (rule.refused_line number place) }
 {
     Said {
         refused: true,
-        waits: refused(STDERR_FILENO, to, number, place),
+        waits: refused(err, to, number, place),
     }
 }
 
 // Writes what waits where it belongs, and answers whether all went.
-pub fn flush(to: &[u8; ROOM], said: Said) -> bool {
+pub fn flush<O: Write, E: Write>(out: &mut O, err: &mut E, to: &[u8; ROOM], said: Said) -> bool {
     if said.refused {
-        return output::flush(STDERR_FILENO, to, said.waits);
+        return output::flush(err, to, said.waits);
     }
-    output::flush(STDOUT_FILENO, to, said.waits)
+    output::flush(out, to, said.waits)
 }
