@@ -7,14 +7,14 @@ use mathlib.Core.Option.{Option, none, some}
 use native.Mathlib.Omega.{arith}
 use lib.ListN.{length, get_or, replicate}
 use Rattle.text.specs.Why.{Why}
-use Rattle.text.specs.Nom.{Res, fail, ok, Span, span, bytes, bind}
+use Rattle.text.specs.Nom.{Res, fail, ok, Span, bytes, bind}
 use Rattle.text.specs.Many.{Many, many, many0, items, stop, collected}
 use Rattle.text.specs.Util.{spells}
 use Rattle.text.proofs.Many.{Falls, many_stop, items_step, stop_step}
 use Rattle.text.proofs.Takes.{takes_falls}
 use Rattle.attributes.specs.Pairs.{QuotedOrUnquoted, Pair, pair, next_pair, key_value_pairs, inserted, get, words, named, besides}
 use Rattle.attributes.specs.Held.{attr_words, laid, attr_at, LastOfEach}
-use Rattle.attributes.specs.ExtMap.{Map, ext_map, uri_of, range_of, mapped, extmap}
+use Rattle.attributes.specs.ExtMap.{Map, mapped, extmap}
 use Rattle.attributes.specs.Inside.Insert.{inserted_from}
 use Rattle.attributes.proofs.Takes.{takes_next_pair}
 use Rattle.attributes.proofs.Laid.{laid_nothing, laid_at}

@@ -1,8 +1,8 @@
 -- What is kept, saved with what is new: it is true if its parts are. And a list that meets a chain. Assumes nothing.
-use Prim.Native.Nat.{ℕ, ◌+◌, ◌*◌, ◌/◌, ◌≤◌, ◌<◌}
+use Prim.Native.Nat.{ℕ, ◌+◌, ◌*◌, ◌/◌, ◌≤◌}
 use mathlib.Core.Path.{◌≡◌, refl, sym, ◌∙◌, ap}
-use mathlib.Core.Bool.{Bool, true, false, ◌&&◌, false≢true}
-use mathlib.Core.List.{List, [], ◌∷◌, map}
+use mathlib.Core.Bool.{true, ◌&&◌, false≢true}
+use mathlib.Core.List.{List, map}
 use mathlib.Core.Option.{Option, none, some}
 use native.Mathlib.Omega.{arith}
 use lib.Dec.{leb}
@@ -16,7 +16,7 @@ use Rattle.attributes.specs.Pairs.{QuotedOrUnquoted, Pair, pair, next_pair, key_
 use Rattle.attributes.specs.Held.{attr_words, attr_at, laid, LastOfEach}
 use Rattle.attributes.proofs.Laid.{laid_nothing, laid_length}
 use Rattle.attributes.specs.Inside.Insert.{inserted_from}
-use Rattle.chains.specs.Inside.Kept.{has, begun, start_of, end_of, later, Leads, Chain, chain, Known, TrueChain, Forward, present, begins_name, joins, Failing, TrueFailing, Memory, memory, overlaid, place_words, memory_of, memory_words, kept_at, TrueParts, TrueMemory, ListFrom}
+use Rattle.chains.specs.Inside.Kept.{has, begun, start_of, end_of, later, Leads, Chain, Known, TrueChain, Forward, present, begins_name, joins, Failing, TrueFailing, Memory, memory, overlaid, place_words, memory_of, memory_words, kept_at, TrueParts, TrueMemory, ListFrom}
 use Rattle.chains.proofs.Pairs.{next_pair_lem, pair_inside}
 use Rattle.chains.proofs.Leads.{leads_none, leads_on, chain_begun}
 use Rattle.chains.proofs.Overlaid.{list_met, list_step}

@@ -1,5 +1,5 @@
 -- Tests of places, as the code makes them and as the rules do; and a chain that goes on. Assumes nothing.
-use Prim.Native.Nat.{ℕ, ◌+◌, ◌-◌, ◌≤◌, ◌<◌}
+use Prim.Native.Nat.{ℕ, ◌+◌, ◌-◌, ◌<◌}
 use mathlib.Core.Path.{◌≡◌, refl, sym, ◌∙◌}
 use mathlib.Core.Bool.{Bool, true, false, ◌&&◌, false≢true}
 use mathlib.Core.List.{List}
@@ -17,7 +17,7 @@ use Rattle.attributes.specs.declared.pair.PairRes.{PairRes}
 use Rattle.attributes.specs.declared.pair.PairRes.TheVariants as pairResᵛ
 use Rattle.attributes.specs.Pairs.{Pair, key_value_pair}
 use Rattle.attributes.specs.Answers.{pair_res}
-use Rattle.chains.specs.Inside.Kept.{start_of, end_of, begins_name, Fails, Silent}
+use Rattle.chains.specs.Inside.Kept.{begins_name, Fails, Silent}
 use Rattle.chains.specs.Inside.Answers.{PairOk, PairThere}
 use Rattle.chains.proofs.Leads.{chain_step}
 use Rattle.chains.proofs.Pairs.{next_pair_lem, fails_inside}

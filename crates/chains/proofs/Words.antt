@@ -1,17 +1,17 @@
 -- The words of what is kept: they are read back, and what is laid elsewhere leaves them as they are. Assumes nothing.
 use Prim.Native.Nat.{ℕ, suc, ◌+◌, ◌-◌, ◌*◌, ◌≤◌, ◌<◌}
-use mathlib.Core.Path.{◌≡◌, refl, sym, ◌∙◌, ap}
+use mathlib.Core.Path.{◌≡◌, refl, ◌∙◌, ap}
 use mathlib.Core.List.{List, [], ◌∷◌, ◌++◌, append_assoc}
 use mathlib.Core.Option.{Option, none, some}
 use native.Mathlib.Omega.{arith}
 use lib.ListN.{length, get_or, take, drop, set, length-append, length-drop}
-use lib.Seq.{sets, sets-eq, length-sets, length-take-le, take_at, drop_at, drop-append-add, drop-drop, drop-set-add, drop-set-lt, take-set-le, get_or-set_other}
+use lib.Seq.{sets, sets-eq, length-take-le, take_at, drop_at, drop-set-add, drop-set-lt, take-set-le, get_or-set_other}
 use Rattle.text.specs.Nom.{Span, span}
 use Rattle.tables.proofs.Sets.{sets_over}
 use Rattle.attributes.specs.Pairs.{QuotedOrUnquoted, bare, in_quotes}
-use Rattle.attributes.specs.Held.{attr_from, attr_at, words_of, attr_words}
+use Rattle.attributes.specs.Held.{attr_at, words_of}
 use Rattle.attributes.proofs.Laid.{word_there, three}
-use Rattle.chains.specs.Inside.Kept.{start_of, end_of, Chain, Failing, Memory, memory, chain, failing, place_words, memory_of, memory_words, kept_at}
+use Rattle.chains.specs.Inside.Kept.{start_of, end_of, Memory, memory, chain, failing, place_words, memory_of, memory_words, kept_at}
 
 -- ---- the two values, as `held` reads them
 pub first_value : (m : List ℕ) → place_words ≤ length m → attr_at m 0 ≡ (memory_of m).first.value

@@ -5,7 +5,7 @@ use mathlib.Core.List.{List}
 use Prim.Native.Nat.{ℕ, suc, ◌+◌, ◌-◌, ◌*◌, ◌≤◌, ◌<◌, min}
 use native.Mathlib.Numerals.{add-one}
 use native.Mathlib.Omega.{arith}
-use Rattle.tables.specs.Refusal.{Refusal, Answer, given}
+use Rattle.tables.specs.Refusal.{Answer, given}
 use Rattle.tables.specs.Answers.{refusal_of}
 use Rattle.tables.specs.declared.Refusal as refusalᵈ
 use Rattle.tables.proofs.Refusals.{RefusesAs}

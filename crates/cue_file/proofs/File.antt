@@ -9,7 +9,6 @@ use native.Mathlib.Nat.{zero-mul, suc-mul, zero-add, add-zero, sub-zero, eq-or-l
 use native.Mathlib.Omega.{arith}
 use lib.ListN.{length, take, drop, length-append, length-drop, take-append-drop}
 use lib.Seq.{take-add, drop-drop, take_all, drop_at, length-take-le}
-use borrow.Author.Tests.{eq-eqb}
 use Rattle.text.specs.Spans.{shown}
 use Rattle.text.proofs.Ahead.{on, shows}
 use Rattle.tables.specs.Layout.{second}

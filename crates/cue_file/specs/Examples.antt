@@ -1,14 +1,14 @@
 -- 01's turn sheet as a cue file, byte by byte, and what the reader makes of it and of files that are not quite it; both sides of each limit. By computation over
 -- the rules. Assumes nothing.
-use Rattle.std.specs.Prelude.{◌≡◌, refl, Bool, true, false, List, [], ◌∷◌, ◌++◌, map, ℕ, ◌+◌, ◌-◌, ◌*◌, ◌^◌, length, replicate, set, take, drop}
+use Rattle.std.specs.Prelude.{◌≡◌, refl, true, false, List, [], ◌∷◌, ◌++◌, map, ℕ, ◌-◌, ◌^◌, replicate, set, take, drop}
 use Rattle.text.specs.Nom.{bytes, span}
 use Rattle.tables.specs.Layout as layout
 use Rattle.tables.specs.Table.{every, listed, fits}
 use Rattle.tables.specs.Refusal.{Answer, given, refused, laid, text_too_long, broken_table, total_too_long, output_short, no_such_clip, file_too_short, other_version, not_exact, bad_start, too_wide}
 use Rattle.clock.specs.Clock as clock
-use Rattle.cue_file.specs.Format.{bytes_of, value_at, version1, Cue, uris, clips_bytes, file_of, clips_hold, file_holds}
+use Rattle.cue_file.specs.Format.{bytes_of, value_at, version1, uris, clips_bytes, file_of, clips_hold, file_holds}
 use Rattle.cue_file.specs.Write.{keeps_rule, list_keeps, written, cue_write}
-use Rattle.cue_file.specs.Read.{Found, found, cursor, done, clip, lengths_in, fits_exactly, start_keeps, judged, cue_read, cues, next}
+use Rattle.cue_file.specs.Read.{found, cursor, done, clip, lengths_in, fits_exactly, start_keeps, judged, cue_read, cues, next}
 
 -- "high byte first"
 high_first : bytes_of 4 16909060 ≡ 1 ∷ 2 ∷ 3 ∷ 4 ∷ []

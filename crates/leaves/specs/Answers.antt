@@ -1,5 +1,5 @@
 -- What each answer of the code says, in the words of the rules. Assumes nothing.
-use Rattle.std.specs.Prelude.{ℕ, Bool, true, false}
+use Rattle.std.specs.Prelude.{ℕ}
 use Rattle.std.proofs.Math.Option.{Option, none, some}
 use Rattle.text.specs.Why.{no_digits}
 use Rattle.text.specs.Nom.{Res, fail, ok}

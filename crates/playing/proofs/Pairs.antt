@@ -3,8 +3,8 @@
 use mathlib.Core.Path.{◌≡◌, refl, sym, ap, ◌∙◌}
 use mathlib.Core.Bool.{Bool}
 use mathlib.Core.List.{List}
-use mathlib.Core.Logic.{◌⊎◌, inl, inr, ⊎_elim, ◌↔◌}
-use Prim.Native.Nat.{ℕ, suc, ◌+◌, ◌-◌, ◌*◌, ◌≤◌, ◌<◌}
+use mathlib.Core.Logic.{inl, inr, ⊎_elim, ◌↔◌}
+use Prim.Native.Nat.{ℕ, suc, ◌+◌, ◌*◌, ◌≤◌, ◌<◌}
 use native.Mathlib.Nat.{lt_of_mul-lt-mul_right, mul-le-mul_right, le_of_suc-le-suc, eq-or-lt_of_le, lt_of_not-le}
 use native.Mathlib.Omega.{arith}
 use lib.Dec.{leb}
@@ -127,9 +127,9 @@ module _ (t : List ℕ) (n rate tick whole : ℕ) (g : InPlay t n rate tick) (w 
       let m' : turn * sum_lengths t n + rest ≡ last_moment rate tick = rw w at m in
       let l' : rest < sum_lengths t n = omega (arith, w) in
       record {
-        is-on = ap (pair turn) f.found ∙ sym (pair_is t n rate tick g turn rest m' l');
-        in-turn = turn_in t n rate tick g turn rest m' l';
+        is_on = ap (pair turn) f.found ∙ sym (pair_is t n rate tick g turn rest m' l');
+        in_turn = turn_in t n rate tick g turn rest m' l';
         in_list = f.in_list;
-        before-it = f.before_it;
+        before_it = f.before_it;
         its_own = f.its_own;
       }

@@ -1,13 +1,11 @@
 -- What each answer of the code says, in the words of `Kept`. Assumes nothing.
-use Rattle.std.specs.Prelude.{ℕ, ◌≡◌, List, map, true, length, replicate}
-use Rattle.std.proofs.Math.Option.{Option}
+use Rattle.std.specs.Prelude.{ℕ, ◌≡◌, List, true, length, replicate}
 use Rattle.text.specs.Nom.{ok, run_end, is_space}
-use Rattle.text.specs.Many.{many0, items, stop}
 use Rattle.text.specs.Answers.{span_of}
 use Rattle.attributes.specs.declared.pair.PairRes.{PairRes}
 use Rattle.attributes.specs.declared.pair.PairRes.TheVariants as pairResᵛ
-use Rattle.attributes.specs.Pairs.{QuotedOrUnquoted, Pair, key_value_pair, next_pair, inserted, words}
-use Rattle.attributes.specs.Held.{laid, LastOfEach}
+use Rattle.attributes.specs.Pairs.{Pair, key_value_pair, next_pair, words}
+use Rattle.attributes.specs.Held.{LastOfEach}
 use Rattle.attributes.specs.Answers.{attr_of, pair_of}
 use Rattle.chains.specs.declared.kept.Chain as chainᵈ
 use Rattle.chains.specs.declared.kept.Failing as failingᵈ

@@ -1,6 +1,6 @@
 -- What is kept of the attribute lists that were read before, and when it is true of a text. No rule of the reading cites it: a list that is read with a memory
 -- that is true of its text is the list of `attributes`' rules. Assumes nothing.
-use Rattle.std.specs.Prelude.{ℕ, ◌+◌, ◌*◌, ◌≤◌, ◌<◌, ◌≡◌, Bool, true, false, cond, ◌&&◌, List, [], ◌∷◌, ◌++◌, map, ltb, leb, length, get_or, take, drop}
+use Rattle.std.specs.Prelude.{ℕ, ◌+◌, ◌*◌, ◌≤◌, ◌≡◌, Bool, true, false, cond, ◌&&◌, List, [], ◌∷◌, ◌++◌, map, ltb, leb, length, get_or, take, drop}
 use Rattle.std.proofs.Math.Option.{Option, none, some}
 use Rattle.text.specs.Why.{Why}
 use Rattle.text.specs.Nom.{fail, ok, Span, span, bytes, is_none_of}

@@ -3,7 +3,6 @@ use native.Mathlib.Omega.{arith}
 use Prim.Native.Nat.{◌+◌, ◌-◌, ◌≤◌}
 use mathlib.Core.Path.{◌≡◌, refl, sym, ◌∙◌, ap}
 use mathlib.Core.List.{◌∷◌}
-use mathlib.Core.Logic.{⊎_elim}
 use lib.ListN.{length, get_or, take, drop}
 use Rattle.attributes.specs.Pairs.{words}
 use Rattle.attributes.specs.Inside.Insert.{inserted_from}
@@ -49,11 +48,11 @@ done : (c : Joined-spells) →
 done c =
     let next = words_next _ _ _ _ c.name_end-end.ensures _ _ c.loop-n-test.true refl in
     elim c.if-spells.branch [
-      then-spells w ↦
-        let now-held = w.held-is ∙ w.put.ensures in
-        (inserted_here _ _ _ _ _ _ _ _ next (sym c.spells.ensures ∙ w.if-spells.true) ∙ ap (inserted_from _ _ _ _) (sym now-held), ap length now-held ∙ stored_length _ _ _)
-    | else-spells w ↦
-        (inserted_on _ _ _ _ _ _ _ _ next (sym c.spells.ensures ∙ w.if-spells.false) ∙ ap (inserted_from _ _ _ _) (sym w.held-is), ap length w.held-is)
+      | then-spells w ↦
+          let now-held = w.held-is ∙ w.put.ensures in
+          (inserted_here _ _ _ _ _ _ _ _ next (sym c.spells.ensures ∙ w.if-spells.true) ∙ ap (inserted_from _ _ _ _) (sym now-held), ap length now-held ∙ stored_length _ _ _)
+      | else-spells w ↦
+          (inserted_on _ _ _ _ _ _ _ _ next (sym c.spells.ensures ∙ w.if-spells.false) ∙ ap (inserted_from _ _ _ _) (sym w.held-is), ap length w.held-is)
     ]
 
 pub loop-n-preserved : goal.loop-n-preserved

@@ -1,5 +1,4 @@
 -- `list::begun_with`: the first pair, the walk behind it, and a chain of its own. Assumes nothing.
-use native.Mathlib.Omega.{arith}
 use mathlib.Core.Path.{ap, ◌∙◌}
 use Rattle.attributes.specs.Pairs.{words}
 use Rattle.chains.proofs.Overlaid.{list_step, inserted_length}

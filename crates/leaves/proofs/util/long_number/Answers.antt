@@ -1,7 +1,6 @@
 -- `util::long_number`: what the loop knows is `Counted`, behind zeros at first, with one law for each way out. Assumes nothing.
 use Prim.Native.Nat.{◌+◌, ◌*◌, ◌^◌, ◌<◌}
 use mathlib.Core.Path.{sym, ◌∙◌}
-use mathlib.Core.Logic.{⊎_elim}
 use native.Mathlib.Omega.{arith}
 use Rattle.leaves.proofs.Number.{counted_zeros, counted_step, counted_large, counted_stop, counted_out}
 use Rattle.leaves.proofs.util.long_number.Goals as goal

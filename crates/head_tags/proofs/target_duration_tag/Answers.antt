@@ -1,0 +1,10 @@
+-- `target_duration_tag`: what `number_after` ensures. Assumes nothing.
+use Rattle.head_tags.specs.Inside.Answers.{number_res}
+use mathlib.Core.Path.{sym, ◌∙◌, ap}
+use Rattle.head_tags.proofs.target_duration_tag.Goals as goal
+
+pub returns-in-Ok : goal.returns-in-Ok
+returns-in-Ok c = rw (sym c.number_after.ensures ∙ ap number_res c.in-Ok.is)
+
+pub returns-in-Fail : goal.returns-in-Fail
+returns-in-Fail c = rw (sym c.number_after.ensures ∙ ap number_res c.in-Fail.is)
