@@ -11,10 +11,10 @@ ghost use Rattle.cue.specs.Inside.Words as inside;
 
 use input::whole;
 use input::whole::Whole;
-use libc::{STDIN_FILENO, STDOUT_FILENO};
 use media::ParseAnswer;
 use output::Waits;
 use printing::Said;
+use std::io::{Read, Write};
 use tables::{Laid, Refusal, layout};
 
 // The longest text that the program holds.
@@ -34,27 +34,34 @@ const TAG_ROOM: usize = TAGS * layout::TAG_WORDS;
 // So many records, URIs as long as a text, and the trailer.
 const FILE_ROOM: usize = CLIPS * cue_file::CLIP_WIDTH + TEXT_SIZE + cue_file::TRAILER_WIDTH;
 
-fn say_file(to: &mut [u8; output::ROOM], file: &[u8]) -> Said
+fn say_file<O: Write>(stdout: &mut O, to: &mut [u8; output::ROOM], file: &[u8]) -> Said
     ensures { (result.refused ≡ false) × PutsFirst to.new result.waits file.now }
 {
     Said {
         refused: false,
-        waits: output::put_bytes(STDOUT_FILENO, to, Waits::none(), file),
+        waits: output::put_bytes(stdout, to, Waits::none(), file),
     }
 }
 
 // The first bytes of the output.
-fn say_front(to: &mut [u8; output::ROOM], out: &[u8], count: usize) -> Said
+fn say_front<O: Write>(
+    stdout: &mut O,
+    to: &mut [u8; output::ROOM],
+    out: &[u8],
+    count: usize,
+) -> Said
     ensures { (result.refused ≡ false) × PutsFirst to.new result.waits (take count out.now) }
 {
     if out.len() <= count {
-        return say_file(to, out);
+        return say_file(stdout, to, out);
     }
-    say_file(to, &out[0..count])
+    say_file(stdout, to, &out[0..count])
 }
 
 // The file is whole in its own memory before a byte of it is put: a refusal leaves nothing on standard output.
-fn make_file(
+fn make_file<O: Write, E: Write>(
+    stdout: &mut O,
+    stderr: &mut E,
     to: &mut [u8; output::ROOM],
     text: &[u8],
     words: &[u64],
@@ -64,13 +71,15 @@ fn make_file(
     ensures { SaidAs to.new result (inside.words_file text.now words.now clips out.old) }
 {
     match cue_writer::write(text, words, clips, out) {
-        Laid::Refused(r) => printing::refusal(to, r.number(), 0),
-        Laid::Given(count) => say_front(to, out, count),
+        Laid::Refused(r) => printing::refusal(stderr, to, r.number(), 0),
+        Laid::Given(count) => say_front(stdout, to, out, count),
     }
 }
 
 // 1 by the program's own size, then the reader's refusals, then the writer's.
-fn read_list(
+fn read_list<O: Write, E: Write>(
+    stdout: &mut O,
+    stderr: &mut E,
     to: &mut [u8; output::ROOM],
     text: &[u8],
     clips: &mut [u64; CLIP_ROOM],
@@ -81,16 +90,18 @@ fn read_list(
 {
     if TEXT_SIZE < text.len() {
         let too_long = Refusal::TextTooLong;
-        return printing::refusal(to, too_long.number(), 0);
+        return printing::refusal(stderr, to, too_long.number(), 0);
     }
     match media::parse_media_playlist(text, clips, tags) {
-        ParseAnswer::Refused(r, place) => printing::refusal(to, r.number(), place),
-        ParseAnswer::Given(read) => make_file(to, text, clips, read.clips, out),
+        ParseAnswer::Refused(r, place) => printing::refusal(stderr, to, r.number(), place),
+        ParseAnswer::Given(read) => make_file(stdout, stderr, to, text, clips, read.clips, out),
     }
 }
 
 // What came is the first bytes of the text. A text that could not be read has no file.
-fn read_input(
+fn read_input<O: Write, E: Write>(
+    stdout: &mut O,
+    stderr: &mut E,
     to: &mut [u8; output::ROOM],
     text: &[u8],
     input: Whole,
@@ -102,20 +113,22 @@ fn read_input(
 {
     let count = input.count;
     if input.failed {
-        os::fail(b"cue: read");
         return Said {
             refused: true,
             waits: Waits::none(),
         };
     }
     if text.len() <= count {
-        return read_list(to, text, clips, tags, out);
+        return read_list(stdout, stderr, to, text, clips, tags, out);
     }
-    read_list(to, &text[0..count], clips, tags, out)
+    read_list(stdout, stderr, to, &text[0..count], clips, tags, out)
 }
 
 // What comes is the operating system's to say. The promise: there is an input of which this is said.
-fn run(
+fn run<I: Read, O: Write, E: Write>(
+    stdin: &mut I,
+    stdout: &mut O,
+    stderr: &mut E,
     to: &mut [u8; output::ROOM],
     text: &mut [u8],
     clips: &mut [u64; CLIP_ROOM],
@@ -124,18 +137,34 @@ fn run(
 ) -> Said
     ensures { (input : wholeᵈ.Whole) × SaysAs input.failed to.new result (rule.cue_file (take input.count text.new)) }
 {
-    let input = whole::read_all(STDIN_FILENO, text);
-    read_input(to, text, input, clips, tags, out)
+    let input = whole::read_all(stdin, text);
+    read_input(stdout, stderr, to, text, input, clips, tags, out)
 }
 
-fn main() {
-    let mut to = io::large_buffer();
+fn main(rt: HostRuntime) {
+    let mut stdin = input::watched::Watched::new(rt.stdin());
+    let mut stdout = output::watched::Watched::new(rt.stdout());
+    let mut stderr = output::watched::Watched::new(rt.stderr());
+    let mut to = [0u8; output::ROOM];
     let mut text = [0u8; TEXT_ROOM];
     let mut clips = [0u64; CLIP_ROOM];
     let mut tags = [0u64; TAG_ROOM];
     let mut out = [0u8; FILE_ROOM];
-    let said = run(&mut to, &mut text, &mut clips, &mut tags, &mut out);
-    if !printing::flush(&to, said) {
-        os::fail(b"cue: write");
+    let said = run(
+        &mut stdin,
+        &mut stdout,
+        &mut stderr,
+        &mut to,
+        &mut text,
+        &mut clips,
+        &mut tags,
+        &mut out,
+    );
+    printing::flush(&mut stdout, &mut stderr, &to, said);
+    if let Some(e) = stdin.error {
+        let _ = eprintln!(rt; "cue: read: {e}");
+    }
+    if let Some(e) = stdout.error.or(stderr.error) {
+        let _ = eprintln!(rt; "cue: write: {e}");
     }
 }

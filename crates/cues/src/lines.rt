@@ -8,19 +8,19 @@ ghost use Rattle.cue_reader.specs.Answers.{cursor_of};
 ghost use Rattle.cues.specs.Inside.Pass as inside;
 
 use cue_reader::all::{Cue, Cues, Step};
-use libc::STDOUT_FILENO;
 use output::{ROOM, Waits};
 use printing::Said;
+use std::io::Write;
 
 // Number and start as the cursor has them; the URI's bytes as they stand in the file.
-fn cue(to: &mut [u8; ROOM], waits: Waits, file: &[u8], cue: Cue) -> Waits
+fn cue<O: Write>(stdout: &mut O, to: &mut [u8; ROOM], waits: Waits, file: &[u8], cue: Cue) -> Waits
     ensures { Puts to.old to.new waits result (inside.span_line file.now cue.clip cue.start (span_of cue.uri)) }
 {
     let uri = cue.uri;
-    let waits = printing::field(STDOUT_FILENO, to, waits, cue.clip as u64);
-    let waits = printing::field(STDOUT_FILENO, to, waits, cue.start);
-    let waits = output::put_part(STDOUT_FILENO, to, waits, file, uri.start, uri.end);
-    output::put_byte(STDOUT_FILENO, to, waits, b'\n')
+    let waits = printing::field(stdout, to, waits, cue.clip as u64);
+    let waits = printing::field(stdout, to, waits, cue.start);
+    let waits = output::put_part(stdout, to, waits, file, uri.start, uri.end);
+    output::put_byte(stdout, to, waits, b'\n')
 }
 
 // Where the printing stands: the cursor before the next clip, and what waits.
@@ -31,7 +31,7 @@ struct Pass {
 }
 
 // Over the file that the cursor was made with no step is refused, so that but for a clip there is nothing to print.
-fn next_cue(to: &mut [u8; ROOM], s: Pass, file: &[u8]) -> Pass
+fn next_cue<O: Write>(stdout: &mut O, to: &mut [u8; ROOM], s: Pass, file: &[u8]) -> Pass
     ensures moved { cursor_of result.cues ≡ inside.step_after (cursor_of s.cues) (next version1 file.now (cursor_of s.cues)) }
     ensures puts { Puts to.old to.new s.waits result.waits (inside.step_line file.now (next version1 file.now (cursor_of s.cues))) }
 {
@@ -40,33 +40,39 @@ fn next_cue(to: &mut [u8; ROOM], s: Pass, file: &[u8]) -> Pass
     match cues.next(file) {
         Step::Clip(row, after) => Pass {
             cues: after,
-            waits: cue(to, waits, file, row),
+            waits: cue(stdout, to, waits, file, row),
         },
         _ => s,
     }
 }
 
 // One step for each clip.
-fn each(to: &mut [u8; ROOM], waits: Waits, file: &[u8], cues: Cues) -> Waits
+fn each<O: Write>(
+    stdout: &mut O,
+    to: &mut [u8; ROOM],
+    waits: Waits,
+    file: &[u8],
+    cues: Cues,
+) -> Waits
     ensures { Puts to.old to.new waits result (inside.pass_lines file.now (cursor_of cues) cues.clips) }
 {
     let clips = cues.clips;
     let mut s = Pass { cues, waits };
     let mut k = 0usize;
     while k < clips {
-        s = next_cue(to, s, file);
+        s = next_cue(stdout, to, s, file);
         k += 1;
     }
     s.waits
 }
 
-pub fn cues(to: &mut [u8; ROOM], file: &[u8], cues: Cues) -> Said
+pub fn cues<O: Write>(stdout: &mut O, to: &mut [u8; ROOM], file: &[u8], cues: Cues) -> Said
     ensures { (result.refused ≡ false) × PutsFirst to.new result.waits (inside.pass_text file.now (cursor_of cues)) }
 {
     let header = b"clip\tstart\turi\n";
-    let waits = output::put_bytes(STDOUT_FILENO, to, Waits::none(), header);
+    let waits = output::put_bytes(stdout, to, Waits::none(), header);
     Said {
         refused: false,
-        waits: each(to, waits, file, cues),
+        waits: each(stdout, to, waits, file, cues),
     }
 }

@@ -10,9 +10,9 @@ ghost use Rattle.cues.specs.Shown as rule;
 use cue_reader::all::{Cues, Opened};
 use input::whole;
 use input::whole::Whole;
-use libc::STDIN_FILENO;
 use output::Waits;
 use printing::Said;
+use std::io::{Read, Write};
 use tables::Refusal;
 
 mod lines; // what is printed
@@ -24,50 +24,73 @@ const FILE_SIZE: usize = 393_216;
 const FILE_ROOM: usize = FILE_SIZE + 1;
 
 // 1 by the program's own size, then the reader's refusals, before the first line is printed.
-fn show_file(to: &mut [u8; output::ROOM], file: &[u8]) -> Said
+fn show_file<O: Write, E: Write>(
+    stdout: &mut O,
+    stderr: &mut E,
+    to: &mut [u8; output::ROOM],
+    file: &[u8],
+) -> Said
     ensures { SaidAs to.new result (rule.shown_file file.now) }
 {
     if FILE_SIZE < file.len() {
         let too_long = Refusal::TextTooLong;
-        return printing::refusal(to, too_long.number(), 0);
+        return printing::refusal(stderr, to, too_long.number(), 0);
     }
     match Cues::new(file) {
-        Opened::Refused(r) => printing::refusal(to, r.number(), 0),
-        Opened::Given(cues) => lines::cues(to, file, cues),
+        Opened::Refused(r) => printing::refusal(stderr, to, r.number(), 0),
+        Opened::Given(cues) => lines::cues(stdout, to, file, cues),
     }
 }
 
 // What came is the first bytes of the file. A file that could not be read is not shown.
-fn show_input(to: &mut [u8; output::ROOM], file: &[u8], input: Whole) -> Said
+fn show_input<O: Write, E: Write>(
+    stdout: &mut O,
+    stderr: &mut E,
+    to: &mut [u8; output::ROOM],
+    file: &[u8],
+    input: Whole,
+) -> Said
     ensures { SaysAs input.failed to.new result (rule.shown_file (take input.count file.now)) }
 {
     let count = input.count;
     if input.failed {
-        os::fail(b"cues: read");
         return Said {
             refused: true,
             waits: Waits::none(),
         };
     }
     if file.len() <= count {
-        return show_file(to, file);
+        return show_file(stdout, stderr, to, file);
     }
-    show_file(to, &file[0..count])
+    show_file(stdout, stderr, to, &file[0..count])
 }
 
 // What comes is the operating system's to say. The promise: there is an input of which this is said.
-fn run(to: &mut [u8; output::ROOM], file: &mut [u8]) -> Said
+fn run<I: Read, O: Write, E: Write>(
+    stdin: &mut I,
+    stdout: &mut O,
+    stderr: &mut E,
+    to: &mut [u8; output::ROOM],
+    file: &mut [u8],
+) -> Said
     ensures { (input : wholeᵈ.Whole) × SaysAs input.failed to.new result (rule.shown_file (take input.count file.new)) }
 {
-    let input = whole::read_all(STDIN_FILENO, file);
-    show_input(to, file, input)
+    let input = whole::read_all(stdin, file);
+    show_input(stdout, stderr, to, file, input)
 }
 
-fn main() {
-    let mut to = io::large_buffer();
+fn main(rt: HostRuntime) {
+    let mut stdin = input::watched::Watched::new(rt.stdin());
+    let mut stdout = output::watched::Watched::new(rt.stdout());
+    let mut stderr = output::watched::Watched::new(rt.stderr());
+    let mut to = [0u8; output::ROOM];
     let mut file = [0u8; FILE_ROOM];
-    let said = run(&mut to, &mut file);
-    if !printing::flush(&to, said) {
-        os::fail(b"cues: write");
+    let said = run(&mut stdin, &mut stdout, &mut stderr, &mut to, &mut file);
+    printing::flush(&mut stdout, &mut stderr, &to, said);
+    if let Some(e) = stdin.error {
+        let _ = eprintln!(rt; "cues: read: {e}");
+    }
+    if let Some(e) = stdout.error.or(stderr.error) {
+        let _ = eprintln!(rt; "cues: write: {e}");
     }
 }

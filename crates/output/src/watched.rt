@@ -1,7 +1,7 @@
 // A writer that keeps why a write to it failed, so that a program can say it.
 ghost use Rattle.std.specs.Prelude.{◌≡◌, None, Some, IfErr, OnOk};
 ghost use Rattle.std.specs.Io.{WritesAtMost};
-ghost use Rattle.std.specs.Io.KnownBytes.{Keeps, WriteAppends};
+ghost use Rattle.std.specs.Io.KnownBytes.{Appends, Keeps, WriteAppends};
 
 use std::io;
 use std::io::Write;
@@ -44,6 +44,20 @@ impl<W: Write> Write for Watched<W> {
         ensures unchanged { OnOk result (self.new.error ≡ self.old.error) }
     {
         match self.to.flush() {
+            Ok(()) => Ok(()),
+            Err(e) => {
+                self.error = Some(e);
+                Err(e)
+            }
+        }
+    }
+
+    fn write_all(&mut self, buf: &[u8]) -> io::Result<()>
+        ensures bytes { OnOk result (Appends (W.contents self.old.to) (W.contents self.new.to) buf.now) }
+        ensures kept { IfErr result (λ e. self.new.error ≡ Some e) }
+        ensures unchanged { OnOk result (self.new.error ≡ self.old.error) }
+    {
+        match self.to.write_all(buf) {
             Ok(()) => Ok(()),
             Err(e) => {
                 self.error = Some(e);

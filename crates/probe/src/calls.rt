@@ -4,17 +4,19 @@ ghost use Rattle.std.specs.Prelude.{◌≤◌, length};
 use crate::{State, lines};
 use input::{Input, Taken};
 use ledgerfern::Head;
-use libc::STDIN_FILENO;
 use output::Waits;
+use std::io::{Stdin, Stdout};
 
 pub fn verdict(
     s: State,
+    stdin: &mut Stdin,
     from: &mut [u8; input::ROOM],
+    stdout: &mut Stdout,
     to: &mut [u8; output::ROOM],
     text: &mut [u8],
 ) -> State {
     let waits = s.waits;
-    let bytes = input::bytes(s.input, STDIN_FILENO, from, text);
+    let bytes = input::bytes(s.input, stdin, from, text);
     let length = bytes.count;
     let input = bytes.rest;
     let stop = input.stop;
@@ -22,18 +24,20 @@ pub fn verdict(
         return State { input, waits };
     }
     let given = ledgerfern::ledgerfern_verdict(&text[0..length]);
-    let waits = lines::verdict(to, waits, given);
+    let waits = lines::verdict(stdout, to, waits, given);
     State { input, waits }
 }
 
 pub fn room(
     s: State,
+    stdin: &mut Stdin,
     from: &mut [u8; input::ROOM],
+    stdout: &mut Stdout,
     to: &mut [u8; output::ROOM],
     text: &mut [u8],
 ) -> State {
     let waits = s.waits;
-    let bytes = input::bytes(s.input, STDIN_FILENO, from, text);
+    let bytes = input::bytes(s.input, stdin, from, text);
     let length = bytes.count;
     let input = bytes.rest;
     let stop = input.stop;
@@ -41,12 +45,13 @@ pub fn room(
         return State { input, waits };
     }
     let given = ledgerfern::ledgerfern_room(&text[0..length]);
-    let waits = lines::room(to, waits, given);
+    let waits = lines::room(stdout, to, waits, given);
     State { input, waits }
 }
 
 // The tables are printed as the call leaves them.
 fn read_and_print(
+    stdout: &mut Stdout,
     to: &mut [u8; output::ROOM],
     waits: Waits,
     text: &[u8],
@@ -54,23 +59,25 @@ fn read_and_print(
     tags: &mut [u64],
 ) -> Waits {
     let given = ledgerfern::ledgerfern_read(text, clips, tags);
-    lines::reader(to, waits, given, clips, tags)
+    lines::reader(stdout, to, waits, given, clips, tags)
 }
 
 pub fn reader(
     s: State,
+    stdin: &mut Stdin,
     from: &mut [u8; input::ROOM],
+    stdout: &mut Stdout,
     to: &mut [u8; output::ROOM],
     text: &mut [u8],
     clips: &mut [u64],
     tags: &mut [u64],
 ) -> State {
     let waits = s.waits;
-    let bytes = input::bytes(s.input, STDIN_FILENO, from, text);
+    let bytes = input::bytes(s.input, stdin, from, text);
     let length = bytes.count;
-    let clip_words = input::numbers(bytes.rest, STDIN_FILENO, from, clips);
+    let clip_words = input::numbers(bytes.rest, stdin, from, clips);
     let clip_end = clip_words.count;
-    let tag_words = input::numbers(clip_words.rest, STDIN_FILENO, from, tags);
+    let tag_words = input::numbers(clip_words.rest, stdin, from, tags);
     let tag_end = tag_words.count;
     let input = tag_words.rest;
     let stop = input.stop;
@@ -78,6 +85,7 @@ pub fn reader(
         return State { input, waits };
     }
     let waits = read_and_print(
+        stdout,
         to,
         waits,
         &text[0..length],
@@ -95,11 +103,16 @@ struct Table {
     input: Input,
 }
 
-fn take_table(input: Input, from: &mut [u8; input::ROOM], words: &mut [u64]) -> Table
+fn take_table(
+    input: Input,
+    stdin: &mut Stdin,
+    from: &mut [u8; input::ROOM],
+    words: &mut [u64],
+) -> Table
     ensures { result.words ≤ length words.new }
 {
-    let entries = input::number(input, STDIN_FILENO, from);
-    let filled = input::numbers(entries.rest, STDIN_FILENO, from, words);
+    let entries = input::number(input, stdin, from);
+    let filled = input::numbers(entries.rest, stdin, from, words);
     let input = filled.rest;
     Table {
         entries: entries.value as usize,
@@ -115,18 +128,18 @@ struct TakenHead {
     input: Input,
 }
 
-fn take_head(input: Input, from: &mut [u8; input::ROOM]) -> TakenHead {
-    let version_present = input::number(input, STDIN_FILENO, from);
-    let version = input::number(version_present.rest, STDIN_FILENO, from);
-    let target_duration = input::number(version.rest, STDIN_FILENO, from);
-    let media_sequence = input::number(target_duration.rest, STDIN_FILENO, from);
-    let discontinuity_sequence = input::number(media_sequence.rest, STDIN_FILENO, from);
-    let playlist_type = input::number(discontinuity_sequence.rest, STDIN_FILENO, from);
-    let type_start = input::number(playlist_type.rest, STDIN_FILENO, from);
-    let type_end = input::number(type_start.rest, STDIN_FILENO, from);
-    let end_list = input::number(type_end.rest, STDIN_FILENO, from);
-    let i_frames_only = input::number(end_list.rest, STDIN_FILENO, from);
-    let independent_segments = input::number(i_frames_only.rest, STDIN_FILENO, from);
+fn take_head(input: Input, stdin: &mut Stdin, from: &mut [u8; input::ROOM]) -> TakenHead {
+    let version_present = input::number(input, stdin, from);
+    let version = input::number(version_present.rest, stdin, from);
+    let target_duration = input::number(version.rest, stdin, from);
+    let media_sequence = input::number(target_duration.rest, stdin, from);
+    let discontinuity_sequence = input::number(media_sequence.rest, stdin, from);
+    let playlist_type = input::number(discontinuity_sequence.rest, stdin, from);
+    let type_start = input::number(playlist_type.rest, stdin, from);
+    let type_end = input::number(type_start.rest, stdin, from);
+    let end_list = input::number(type_end.rest, stdin, from);
+    let i_frames_only = input::number(end_list.rest, stdin, from);
+    let independent_segments = input::number(i_frames_only.rest, stdin, from);
     let input = independent_segments.rest;
     let head = Head {
         version_present: version_present.value,
@@ -146,6 +159,7 @@ fn take_head(input: Input, from: &mut [u8; input::ROOM]) -> TakenHead {
 
 // The output is printed as the call leaves it.
 fn write_and_print(
+    stdout: &mut Stdout,
     to: &mut [u8; output::ROOM],
     waits: Waits,
     text: &[u8],
@@ -157,13 +171,15 @@ fn write_and_print(
     out: &mut [u8],
 ) -> Waits {
     let given = ledgerfern::ledgerfern_write(text, head, clips, clip_words, tags, tag_words, out);
-    lines::writer(to, waits, 3, given, out)
+    lines::writer(stdout, to, waits, 3, given, out)
 }
 
 // Behind the text: the head, both tables, the output.
 fn write_text(
     s: State,
+    stdin: &mut Stdin,
     from: &mut [u8; input::ROOM],
+    stdout: &mut Stdout,
     to: &mut [u8; output::ROOM],
     text: &[u8],
     clips: &mut [u64],
@@ -171,13 +187,13 @@ fn write_text(
     out: &mut [u8],
 ) -> State {
     let waits = s.waits;
-    let head = take_head(s.input, from);
+    let head = take_head(s.input, stdin, from);
     let h = head.head;
-    let clip_table = take_table(head.input, from, clips);
+    let clip_table = take_table(head.input, stdin, from, clips);
     let clip_end = clip_table.words;
-    let tag_table = take_table(clip_table.input, from, tags);
+    let tag_table = take_table(clip_table.input, stdin, from, tags);
     let tag_end = tag_table.words;
-    let room = input::bytes(tag_table.input, STDIN_FILENO, from, out);
+    let room = input::bytes(tag_table.input, stdin, from, out);
     let room_end = room.count;
     let input = room.rest;
     let stop = input.stop;
@@ -185,6 +201,7 @@ fn write_text(
         return State { input, waits };
     }
     let waits = write_and_print(
+        stdout,
         to,
         waits,
         text,
@@ -200,7 +217,9 @@ fn write_text(
 
 pub fn writer(
     s: State,
+    stdin: &mut Stdin,
     from: &mut [u8; input::ROOM],
+    stdout: &mut Stdout,
     to: &mut [u8; output::ROOM],
     text: &mut [u8],
     clips: &mut [u64],
@@ -208,11 +227,21 @@ pub fn writer(
     out: &mut [u8],
 ) -> State {
     let waits = s.waits;
-    let bytes = input::bytes(s.input, STDIN_FILENO, from, text);
+    let bytes = input::bytes(s.input, stdin, from, text);
     let length = bytes.count;
     let input = bytes.rest;
     let next = State { input, waits };
-    write_text(next, from, to, &text[0..length], clips, tags, out)
+    write_text(
+        next,
+        stdin,
+        from,
+        stdout,
+        to,
+        &text[0..length],
+        clips,
+        tags,
+        out,
+    )
 }
 
 // What follows the table in a record of a call over clips, and the input after it: a rate, a turn or a tick, a clip. What an op does not have is 0.
@@ -224,9 +253,9 @@ struct Moment {
     input: Input,
 }
 
-fn take_if(there: bool, input: Input, from: &mut [u8; input::ROOM]) -> Taken {
+fn take_if(there: bool, input: Input, stdin: &mut Stdin, from: &mut [u8; input::ROOM]) -> Taken {
     if there {
-        return input::number(input, STDIN_FILENO, from);
+        return input::number(input, stdin, from);
     }
     Taken {
         value: 0,
@@ -248,10 +277,10 @@ fn has_clip(op: u64) -> bool {
     }
 }
 
-fn take_moment(op: u64, input: Input, from: &mut [u8; input::ROOM]) -> Moment {
-    let rate = take_if(has_rate(op), input, from);
-    let at = take_if(has_rate(op), rate.rest, from);
-    let clip = take_if(has_clip(op), at.rest, from);
+fn take_moment(op: u64, input: Input, stdin: &mut Stdin, from: &mut [u8; input::ROOM]) -> Moment {
+    let rate = take_if(has_rate(op), input, stdin, from);
+    let at = take_if(has_rate(op), rate.rest, stdin, from);
+    let clip = take_if(has_clip(op), at.rest, stdin, from);
     let input = clip.rest;
     Moment {
         rate: rate.value,
@@ -263,6 +292,7 @@ fn take_moment(op: u64, input: Input, from: &mut [u8; input::ROOM]) -> Moment {
 
 fn call_and_print(
     op: u64,
+    stdout: &mut Stdout,
     to: &mut [u8; output::ROOM],
     waits: Waits,
     clips: usize,
@@ -276,39 +306,42 @@ fn call_and_print(
         28 => ledgerfern::ledgerfern_start_ns(clips, words, m.clip),
         8 => {
             let given = ledgerfern::ledgerfern_clip_at(clips, words, m.rate, m.at);
-            return lines::on(to, waits, given);
+            return lines::on(stdout, to, waits, given);
         }
         _ => {
             let given = ledgerfern::ledgerfern_playing_at(clips, words, m.rate, m.at);
-            return lines::playing(to, waits, given);
+            return lines::playing(stdout, to, waits, given);
         }
     };
-    lines::value(to, waits, op, given)
+    lines::value(stdout, to, waits, op, given)
 }
 
 // Ops 4, 5, 7, 8, 13 and 28, the calls over a table of clips alone.
 pub fn over_clips(
     op: u64,
     s: State,
+    stdin: &mut Stdin,
     from: &mut [u8; input::ROOM],
+    stdout: &mut Stdout,
     to: &mut [u8; output::ROOM],
     clips: &mut [u64],
 ) -> State {
     let waits = s.waits;
-    let table = take_table(s.input, from, clips);
+    let table = take_table(s.input, stdin, from, clips);
     let words = table.words;
-    let m = take_moment(op, table.input, from);
+    let m = take_moment(op, table.input, stdin, from);
     let input = m.input;
     let stop = input.stop;
     if stop.happened() {
         return State { input, waits };
     }
-    let waits = call_and_print(op, to, waits, table.entries, &clips[0..words], m);
+    let waits = call_and_print(op, stdout, to, waits, table.entries, &clips[0..words], m);
     State { input, waits }
 }
 
 // The table of starts is printed as the call leaves it.
 fn starts_and_print(
+    stdout: &mut Stdout,
     to: &mut [u8; output::ROOM],
     waits: Waits,
     clips: usize,
@@ -318,22 +351,24 @@ fn starts_and_print(
     out: &mut [u64],
 ) -> Waits {
     let given = ledgerfern::ledgerfern_starts(clips, words, rate, turn, out);
-    lines::starts(to, waits, given, out)
+    lines::starts(stdout, to, waits, given, out)
 }
 
 pub fn starts(
     s: State,
+    stdin: &mut Stdin,
     from: &mut [u8; input::ROOM],
+    stdout: &mut Stdout,
     to: &mut [u8; output::ROOM],
     clips: &mut [u64],
     out: &mut [u64],
 ) -> State {
     let waits = s.waits;
-    let table = take_table(s.input, from, clips);
+    let table = take_table(s.input, stdin, from, clips);
     let clip_end = table.words;
-    let rate = input::number(table.input, STDIN_FILENO, from);
-    let turn = input::number(rate.rest, STDIN_FILENO, from);
-    let room = input::numbers(turn.rest, STDIN_FILENO, from, out);
+    let rate = input::number(table.input, stdin, from);
+    let turn = input::number(rate.rest, stdin, from);
+    let room = input::numbers(turn.rest, stdin, from, out);
     let room_end = room.count;
     let input = room.rest;
     let stop = input.stop;
@@ -341,6 +376,7 @@ pub fn starts(
         return State { input, waits };
     }
     let waits = starts_and_print(
+        stdout,
         to,
         waits,
         table.entries,
@@ -355,15 +391,17 @@ pub fn starts(
 // Behind the text: the table, the clip.
 fn window_of_text(
     s: State,
+    stdin: &mut Stdin,
     from: &mut [u8; input::ROOM],
+    stdout: &mut Stdout,
     to: &mut [u8; output::ROOM],
     text: &[u8],
     clips: &mut [u64],
 ) -> State {
     let waits = s.waits;
-    let table = take_table(s.input, from, clips);
+    let table = take_table(s.input, stdin, from, clips);
     let clip_end = table.words;
-    let clip = input::number(table.input, STDIN_FILENO, from);
+    let clip = input::number(table.input, stdin, from);
     let input = clip.rest;
     let stop = input.stop;
     if stop.happened() {
@@ -375,27 +413,30 @@ fn window_of_text(
         &clips[0..clip_end],
         clip.value as usize,
     );
-    let waits = lines::window(to, waits, given);
+    let waits = lines::window(stdout, to, waits, given);
     State { input, waits }
 }
 
 pub fn window(
     s: State,
+    stdin: &mut Stdin,
     from: &mut [u8; input::ROOM],
+    stdout: &mut Stdout,
     to: &mut [u8; output::ROOM],
     text: &mut [u8],
     clips: &mut [u64],
 ) -> State {
     let waits = s.waits;
-    let bytes = input::bytes(s.input, STDIN_FILENO, from, text);
+    let bytes = input::bytes(s.input, stdin, from, text);
     let length = bytes.count;
     let input = bytes.rest;
     let next = State { input, waits };
-    window_of_text(next, from, to, &text[0..length], clips)
+    window_of_text(next, stdin, from, stdout, to, &text[0..length], clips)
 }
 
 // The table of windows is printed as the call leaves it.
 fn windows_and_print(
+    stdout: &mut Stdout,
     to: &mut [u8; output::ROOM],
     waits: Waits,
     text: &[u8],
@@ -404,22 +445,24 @@ fn windows_and_print(
     out: &mut [u64],
 ) -> Waits {
     let given = ledgerfern::ledgerfern_windows(text, clips, words, out);
-    lines::windows(to, waits, given, out)
+    lines::windows(stdout, to, waits, given, out)
 }
 
 // Behind the text: both tables.
 fn windows_of_text(
     s: State,
+    stdin: &mut Stdin,
     from: &mut [u8; input::ROOM],
+    stdout: &mut Stdout,
     to: &mut [u8; output::ROOM],
     text: &[u8],
     clips: &mut [u64],
     out: &mut [u64],
 ) -> State {
     let waits = s.waits;
-    let table = take_table(s.input, from, clips);
+    let table = take_table(s.input, stdin, from, clips);
     let clip_end = table.words;
-    let room = input::numbers(table.input, STDIN_FILENO, from, out);
+    let room = input::numbers(table.input, stdin, from, out);
     let room_end = room.count;
     let input = room.rest;
     let stop = input.stop;
@@ -427,6 +470,7 @@ fn windows_of_text(
         return State { input, waits };
     }
     let waits = windows_and_print(
+        stdout,
         to,
         waits,
         text,
@@ -439,22 +483,25 @@ fn windows_of_text(
 
 pub fn windows(
     s: State,
+    stdin: &mut Stdin,
     from: &mut [u8; input::ROOM],
+    stdout: &mut Stdout,
     to: &mut [u8; output::ROOM],
     text: &mut [u8],
     clips: &mut [u64],
     out: &mut [u64],
 ) -> State {
     let waits = s.waits;
-    let bytes = input::bytes(s.input, STDIN_FILENO, from, text);
+    let bytes = input::bytes(s.input, stdin, from, text);
     let length = bytes.count;
     let input = bytes.rest;
     let next = State { input, waits };
-    windows_of_text(next, from, to, &text[0..length], clips, out)
+    windows_of_text(next, stdin, from, stdout, to, &text[0..length], clips, out)
 }
 
 // The output is printed as the call leaves it.
 fn cue_and_print(
+    stdout: &mut Stdout,
     to: &mut [u8; output::ROOM],
     waits: Waits,
     text: &[u8],
@@ -463,22 +510,24 @@ fn cue_and_print(
     out: &mut [u8],
 ) -> Waits {
     let given = ledgerfern::ledgerfern_cue_write(text, clips, words, out);
-    lines::writer(to, waits, 9, given, out)
+    lines::writer(stdout, to, waits, 9, given, out)
 }
 
 // Behind the text: the table, the output.
 fn cue_of_text(
     s: State,
+    stdin: &mut Stdin,
     from: &mut [u8; input::ROOM],
+    stdout: &mut Stdout,
     to: &mut [u8; output::ROOM],
     text: &[u8],
     clips: &mut [u64],
     out: &mut [u8],
 ) -> State {
     let waits = s.waits;
-    let table = take_table(s.input, from, clips);
+    let table = take_table(s.input, stdin, from, clips);
     let clip_end = table.words;
-    let room = input::bytes(table.input, STDIN_FILENO, from, out);
+    let room = input::bytes(table.input, stdin, from, out);
     let room_end = room.count;
     let input = room.rest;
     let stop = input.stop;
@@ -486,6 +535,7 @@ fn cue_of_text(
         return State { input, waits };
     }
     let waits = cue_and_print(
+        stdout,
         to,
         waits,
         text,
@@ -498,37 +548,41 @@ fn cue_of_text(
 
 pub fn cue_writer(
     s: State,
+    stdin: &mut Stdin,
     from: &mut [u8; input::ROOM],
+    stdout: &mut Stdout,
     to: &mut [u8; output::ROOM],
     text: &mut [u8],
     clips: &mut [u64],
     out: &mut [u8],
 ) -> State {
     let waits = s.waits;
-    let bytes = input::bytes(s.input, STDIN_FILENO, from, text);
+    let bytes = input::bytes(s.input, stdin, from, text);
     let length = bytes.count;
     let input = bytes.rest;
     let next = State { input, waits };
-    cue_of_text(next, from, to, &text[0..length], clips, out)
+    cue_of_text(next, stdin, from, stdout, to, &text[0..length], clips, out)
 }
 
 // The file, the clip.
 pub fn cue_reader(
     s: State,
+    stdin: &mut Stdin,
     from: &mut [u8; input::ROOM],
+    stdout: &mut Stdout,
     to: &mut [u8; output::ROOM],
     file: &mut [u8],
 ) -> State {
     let waits = s.waits;
-    let bytes = input::bytes(s.input, STDIN_FILENO, from, file);
+    let bytes = input::bytes(s.input, stdin, from, file);
     let length = bytes.count;
-    let clip = input::number(bytes.rest, STDIN_FILENO, from);
+    let clip = input::number(bytes.rest, stdin, from);
     let input = clip.rest;
     let stop = input.stop;
     if stop.happened() {
         return State { input, waits };
     }
     let given = ledgerfern::ledgerfern_cue_read(&file[0..length], clip.value as usize);
-    let waits = lines::cue(to, waits, given);
+    let waits = lines::cue(stdout, to, waits, given);
     State { input, waits }
 }

@@ -3,48 +3,49 @@ use input::Stop;
 use ledgerfern::{
     Cue, Head, On, Playing, Read, Room, Starts, Value, Verdict, Window, Windows, Written,
 };
-use libc::STDOUT_FILENO;
 use output::{ROOM, Waits};
+use std::io::Stdout;
 
-pub fn text(to: &mut [u8; ROOM], waits: Waits, bytes: &[u8]) -> Waits {
-    output::put_bytes(STDOUT_FILENO, to, waits, bytes)
+pub fn text(stdout: &mut Stdout, to: &mut [u8; ROOM], waits: Waits, bytes: &[u8]) -> Waits {
+    output::put_bytes(stdout, to, waits, bytes)
 }
 
 // The last line of a run that stopped inside a record.
-pub fn stopped(to: &mut [u8; ROOM], waits: Waits, stop: Stop) -> Waits {
+pub fn stopped(stdout: &mut Stdout, to: &mut [u8; ROOM], waits: Waits, stop: Stop) -> Waits {
     match stop {
-        Stop::TooLarge => text(to, waits, b"too large\n"),
-        Stop::ReadFailed => text(to, waits, b"read failed\n"),
-        _ => text(to, waits, b"cut short\n"),
+        Stop::TooLarge => text(stdout, to, waits, b"too large\n"),
+        Stop::ReadFailed => text(stdout, to, waits, b"read failed\n"),
+        _ => text(stdout, to, waits, b"cut short\n"),
     }
 }
 
-fn end_line(to: &mut [u8; ROOM], waits: Waits) -> Waits {
-    output::put_byte(STDOUT_FILENO, to, waits, b'\n')
+fn end_line(stdout: &mut Stdout, to: &mut [u8; ROOM], waits: Waits) -> Waits {
+    output::put_byte(stdout, to, waits, b'\n')
 }
 
-fn field(to: &mut [u8; ROOM], waits: Waits, number: u64) -> Waits {
-    let waits = output::put_byte(STDOUT_FILENO, to, waits, b' ');
-    output::put_number(STDOUT_FILENO, to, waits, number)
+fn field(stdout: &mut Stdout, to: &mut [u8; ROOM], waits: Waits, number: u64) -> Waits {
+    let waits = output::put_byte(stdout, to, waits, b' ');
+    output::put_number(stdout, to, waits, number)
 }
 
-fn fields(to: &mut [u8; ROOM], waits: Waits, numbers: &[u64]) -> Waits {
+fn fields(stdout: &mut Stdout, to: &mut [u8; ROOM], waits: Waits, numbers: &[u64]) -> Waits {
     let mut waits = waits;
     let mut k = 0usize;
     while k < numbers.len() {
-        waits = field(to, waits, numbers[k]);
+        waits = field(stdout, to, waits, numbers[k]);
         k += 1;
     }
     waits
 }
 
-fn words(to: &mut [u8; ROOM], waits: Waits, words: &[u64]) -> Waits {
-    let waits = text(to, waits, b" |");
-    fields(to, waits, words)
+fn words(stdout: &mut Stdout, to: &mut [u8; ROOM], waits: Waits, words: &[u64]) -> Waits {
+    let waits = text(stdout, to, waits, b" |");
+    fields(stdout, to, waits, words)
 }
 
 // Op, number and place, and the values.
 fn answer(
+    stdout: &mut Stdout,
     to: &mut [u8; ROOM],
     waits: Waits,
     op: u64,
@@ -52,34 +53,35 @@ fn answer(
     place: u64,
     values: &[u64],
 ) -> Waits {
-    let waits = output::put_number(STDOUT_FILENO, to, waits, op);
-    let waits = field(to, waits, number);
-    let waits = field(to, waits, place);
-    fields(to, waits, values)
+    let waits = output::put_number(stdout, to, waits, op);
+    let waits = field(stdout, to, waits, number);
+    let waits = field(stdout, to, waits, place);
+    fields(stdout, to, waits, values)
 }
 
-pub fn verdict(to: &mut [u8; ROOM], waits: Waits, r: Verdict) -> Waits {
-    let waits = answer(to, waits, 1, r.number, r.place, &[r.master]);
-    end_line(to, waits)
+pub fn verdict(stdout: &mut Stdout, to: &mut [u8; ROOM], waits: Waits, r: Verdict) -> Waits {
+    let waits = answer(stdout, to, waits, 1, r.number, r.place, &[r.master]);
+    end_line(stdout, to, waits)
 }
 
-pub fn room(to: &mut [u8; ROOM], waits: Waits, r: Room) -> Waits {
-    let waits = answer(to, waits, 15, r.number, r.place, &[r.clips, r.tags]);
-    end_line(to, waits)
+pub fn room(stdout: &mut Stdout, to: &mut [u8; ROOM], waits: Waits, r: Room) -> Waits {
+    let waits = answer(stdout, to, waits, 15, r.number, r.place, &[r.clips, r.tags]);
+    end_line(stdout, to, waits)
 }
 
-pub fn value(to: &mut [u8; ROOM], waits: Waits, op: u64, r: Value) -> Waits {
-    let waits = answer(to, waits, op, r.number, r.place, &[r.value]);
-    end_line(to, waits)
+pub fn value(stdout: &mut Stdout, to: &mut [u8; ROOM], waits: Waits, op: u64, r: Value) -> Waits {
+    let waits = answer(stdout, to, waits, op, r.number, r.place, &[r.value]);
+    end_line(stdout, to, waits)
 }
 
-pub fn on(to: &mut [u8; ROOM], waits: Waits, r: On) -> Waits {
-    let waits = answer(to, waits, 8, r.number, r.place, &[r.turn, r.clip]);
-    end_line(to, waits)
+pub fn on(stdout: &mut Stdout, to: &mut [u8; ROOM], waits: Waits, r: On) -> Waits {
+    let waits = answer(stdout, to, waits, 8, r.number, r.place, &[r.turn, r.clip]);
+    end_line(stdout, to, waits)
 }
 
-pub fn playing(to: &mut [u8; ROOM], waits: Waits, r: Playing) -> Waits {
+pub fn playing(stdout: &mut Stdout, to: &mut [u8; ROOM], waits: Waits, r: Playing) -> Waits {
     let waits = answer(
+        stdout,
         to,
         waits,
         13,
@@ -87,18 +89,25 @@ pub fn playing(to: &mut [u8; ROOM], waits: Waits, r: Playing) -> Waits {
         r.place,
         &[r.turn, r.clip, r.since, r.left],
     );
-    end_line(to, waits)
+    end_line(stdout, to, waits)
 }
 
 // The answer of the call for all starts, and the table as the call left it.
-pub fn starts(to: &mut [u8; ROOM], waits: Waits, r: Starts, out: &[u64]) -> Waits {
-    let waits = answer(to, waits, 14, r.number, r.place, &[r.clips]);
-    let waits = words(to, waits, out);
-    end_line(to, waits)
+pub fn starts(
+    stdout: &mut Stdout,
+    to: &mut [u8; ROOM],
+    waits: Waits,
+    r: Starts,
+    out: &[u64],
+) -> Waits {
+    let waits = answer(stdout, to, waits, 14, r.number, r.place, &[r.clips]);
+    let waits = words(stdout, to, waits, out);
+    end_line(stdout, to, waits)
 }
 
-pub fn window(to: &mut [u8; ROOM], waits: Waits, r: Window) -> Waits {
+pub fn window(stdout: &mut Stdout, to: &mut [u8; ROOM], waits: Waits, r: Window) -> Waits {
     let waits = answer(
+        stdout,
         to,
         waits,
         6,
@@ -106,17 +115,23 @@ pub fn window(to: &mut [u8; ROOM], waits: Waits, r: Window) -> Waits {
         r.place,
         &[r.present, r.start, r.end],
     );
-    end_line(to, waits)
+    end_line(stdout, to, waits)
 }
 
 // The answer of the call for all windows, and the table as the call left it.
-pub fn windows(to: &mut [u8; ROOM], waits: Waits, r: Windows, out: &[u64]) -> Waits {
-    let waits = answer(to, waits, 29, r.number, r.place, &[r.clips]);
-    let waits = words(to, waits, out);
-    end_line(to, waits)
+pub fn windows(
+    stdout: &mut Stdout,
+    to: &mut [u8; ROOM],
+    waits: Waits,
+    r: Windows,
+    out: &[u64],
+) -> Waits {
+    let waits = answer(stdout, to, waits, 29, r.number, r.place, &[r.clips]);
+    let waits = words(stdout, to, waits, out);
+    end_line(stdout, to, waits)
 }
 
-fn head(to: &mut [u8; ROOM], waits: Waits, h: Head) -> Waits {
+fn head(stdout: &mut Stdout, to: &mut [u8; ROOM], waits: Waits, h: Head) -> Waits {
     let numbers = [
         h.version_present,
         h.version,
@@ -130,17 +145,32 @@ fn head(to: &mut [u8; ROOM], waits: Waits, h: Head) -> Waits {
         h.i_frames_only,
         h.independent_segments,
     ];
-    fields(to, waits, &numbers)
+    fields(stdout, to, waits, &numbers)
 }
 
 // The answer of the reader, and both tables as the call left them.
-pub fn reader(to: &mut [u8; ROOM], waits: Waits, r: Read, clips: &[u64], tags: &[u64]) -> Waits {
-    let waits = answer(to, waits, 2, r.number, r.place, &[r.clips, r.tags, r.stop]);
+pub fn reader(
+    stdout: &mut Stdout,
+    to: &mut [u8; ROOM],
+    waits: Waits,
+    r: Read,
+    clips: &[u64],
+    tags: &[u64],
+) -> Waits {
+    let waits = answer(
+        stdout,
+        to,
+        waits,
+        2,
+        r.number,
+        r.place,
+        &[r.clips, r.tags, r.stop],
+    );
     let h = r.head;
-    let waits = head(to, waits, h);
-    let waits = words(to, waits, clips);
-    let waits = words(to, waits, tags);
-    end_line(to, waits)
+    let waits = head(stdout, to, waits, h);
+    let waits = words(stdout, to, waits, clips);
+    let waits = words(stdout, to, waits, tags);
+    end_line(stdout, to, waits)
 }
 
 fn hex_digit(n: u8) -> u8 {
@@ -152,31 +182,39 @@ fn hex_digit(n: u8) -> u8 {
 }
 
 // In lower-case hex.
-fn hex(to: &mut [u8; ROOM], waits: Waits, bytes: &[u8]) -> Waits {
+fn hex(stdout: &mut Stdout, to: &mut [u8; ROOM], waits: Waits, bytes: &[u8]) -> Waits {
     let mut waits = waits;
     let mut k = 0usize;
     while k < bytes.len() {
-        waits = output::put_byte(STDOUT_FILENO, to, waits, hex_digit(bytes[k] / 16));
-        waits = output::put_byte(STDOUT_FILENO, to, waits, hex_digit(bytes[k] % 16));
+        waits = output::put_byte(stdout, to, waits, hex_digit(bytes[k] / 16));
+        waits = output::put_byte(stdout, to, waits, hex_digit(bytes[k] % 16));
         k += 1;
     }
     waits
 }
 
 // The answer of a writer, of a playlist or of a cue file, and the output as the call left it.
-pub fn writer(to: &mut [u8; ROOM], waits: Waits, op: u64, r: Written, out: &[u8]) -> Waits {
-    let waits = answer(to, waits, op, r.number, r.place, &[r.length]);
-    let waits = text(to, waits, b" | ");
+pub fn writer(
+    stdout: &mut Stdout,
+    to: &mut [u8; ROOM],
+    waits: Waits,
+    op: u64,
+    r: Written,
+    out: &[u8],
+) -> Waits {
+    let waits = answer(stdout, to, waits, op, r.number, r.place, &[r.length]);
+    let waits = text(stdout, to, waits, b" | ");
     let waits = if out.len() == 0 {
-        text(to, waits, b"-")
+        text(stdout, to, waits, b"-")
     } else {
-        hex(to, waits, out)
+        hex(stdout, to, waits, out)
     };
-    end_line(to, waits)
+    end_line(stdout, to, waits)
 }
 
-pub fn cue(to: &mut [u8; ROOM], waits: Waits, r: Cue) -> Waits {
+pub fn cue(stdout: &mut Stdout, to: &mut [u8; ROOM], waits: Waits, r: Cue) -> Waits {
     let waits = answer(
+        stdout,
         to,
         waits,
         10,
@@ -184,5 +222,5 @@ pub fn cue(to: &mut [u8; ROOM], waits: Waits, r: Cue) -> Waits {
         r.place,
         &[r.start, r.uri_start, r.uri_end],
     );
-    end_line(to, waits)
+    end_line(stdout, to, waits)
 }

@@ -19,8 +19,8 @@
 #![tactic(auto)]
 
 use input::{Input, Stop};
-use libc::{STDIN_FILENO, STDOUT_FILENO};
 use output::Waits;
+use std::io::{Stdin, Stdout};
 
 mod calls; // for each op: its arguments, the call, its line
 mod lines; // what is printed
@@ -45,12 +45,12 @@ enum Step {
 }
 
 // A record that was cut off, or was too large, ends the run.
-fn after_record(s: State, to: &mut [u8; output::ROOM]) -> Step {
+fn after_record(s: State, stdout: &mut Stdout, to: &mut [u8; output::ROOM]) -> Step {
     let input = s.input;
     let waits = s.waits;
     let stop = input.stop;
     if stop.happened() {
-        return Step::Last(lines::stopped(to, waits, stop));
+        return Step::Last(lines::stopped(stdout, to, waits, stop));
     }
     Step::Next(s)
 }
@@ -58,7 +58,9 @@ fn after_record(s: State, to: &mut [u8; output::ROOM]) -> Step {
 fn call(
     op: u64,
     s: State,
+    stdin: &mut Stdin,
     from: &mut [u8; input::ROOM],
+    stdout: &mut Stdout,
     to: &mut [u8; output::ROOM],
     text: &mut [u8; TEXT_ROOM],
     clips: &mut [u64; WORD_ROOM],
@@ -67,25 +69,27 @@ fn call(
 ) -> Step {
     let waits = s.waits;
     let next = match op {
-        1 => calls::verdict(s, from, to, text),
-        2 => calls::reader(s, from, to, text, clips, tags),
-        3 => calls::writer(s, from, to, text, clips, tags, out),
-        4 | 5 | 7 | 8 | 13 | 28 => calls::over_clips(op, s, from, to, clips),
-        6 => calls::window(s, from, to, text, clips),
-        9 => calls::cue_writer(s, from, to, text, clips, out),
-        10 => calls::cue_reader(s, from, to, text),
-        14 => calls::starts(s, from, to, clips, tags),
-        15 => calls::room(s, from, to, text),
-        29 => calls::windows(s, from, to, text, clips, tags),
-        _ => return Step::Last(lines::text(to, waits, b"unknown op\n")),
+        1 => calls::verdict(s, stdin, from, stdout, to, text),
+        2 => calls::reader(s, stdin, from, stdout, to, text, clips, tags),
+        3 => calls::writer(s, stdin, from, stdout, to, text, clips, tags, out),
+        4 | 5 | 7 | 8 | 13 | 28 => calls::over_clips(op, s, stdin, from, stdout, to, clips),
+        6 => calls::window(s, stdin, from, stdout, to, text, clips),
+        9 => calls::cue_writer(s, stdin, from, stdout, to, text, clips, out),
+        10 => calls::cue_reader(s, stdin, from, stdout, to, text),
+        14 => calls::starts(s, stdin, from, stdout, to, clips, tags),
+        15 => calls::room(s, stdin, from, stdout, to, text),
+        29 => calls::windows(s, stdin, from, stdout, to, text, clips, tags),
+        _ => return Step::Last(lines::text(stdout, to, waits, b"unknown op\n")),
     };
-    after_record(next, to)
+    after_record(next, stdout, to)
 }
 
 // One record, if there is one: between records the input may end.
 fn next_record(
     s: State,
+    stdin: &mut Stdin,
     from: &mut [u8; input::ROOM],
+    stdout: &mut Stdout,
     to: &mut [u8; output::ROOM],
     text: &mut [u8; TEXT_ROOM],
     clips: &mut [u64; WORD_ROOM],
@@ -93,28 +97,32 @@ fn next_record(
     out: &mut [u8; TEXT_ROOM],
 ) -> Step {
     let waits = s.waits;
-    let op = input::byte(s.input, STDIN_FILENO, from);
+    let op = input::byte(s.input, stdin, from);
     let input = op.rest;
     let stop = input.stop;
     match stop {
         Stop::Not => call(
             op.value,
             State { input, waits },
+            stdin,
             from,
+            stdout,
             to,
             text,
             clips,
             tags,
             out,
         ),
-        Stop::Ended => Step::Last(lines::text(to, waits, b"end\n")),
-        _ => Step::Last(lines::stopped(to, waits, stop)),
+        Stop::Ended => Step::Last(lines::text(stdout, to, waits, b"end\n")),
+        _ => Step::Last(lines::stopped(stdout, to, waits, stop)),
     }
 }
 
 // Record after record. Nothing says that the input ends, so the records are counted down, from a number that no run uses up.
 fn run(
+    stdin: &mut Stdin,
     from: &mut [u8; input::ROOM],
+    stdout: &mut Stdout,
     to: &mut [u8; output::ROOM],
     text: &mut [u8; TEXT_ROOM],
     clips: &mut [u64; WORD_ROOM],
@@ -127,7 +135,7 @@ fn run(
     };
     let mut records = u64::MAX;
     while records > 0 {
-        match next_record(s, from, to, text, clips, tags, out) {
+        match next_record(s, stdin, from, stdout, to, text, clips, tags, out) {
             Step::Next(next) => s = next,
             Step::Last(waits) => return waits,
         }
@@ -136,16 +144,25 @@ fn run(
     s.waits
 }
 
-fn main() {
-    let mut from = io::large_buffer();
-    let mut to = io::large_buffer();
+fn main(rt: HostRuntime) {
+    let mut stdin = rt.stdin();
+    let mut stdout = rt.stdout();
+    let mut from = [0u8; input::ROOM];
+    let mut to = [0u8; output::ROOM];
     let mut text = [0u8; TEXT_ROOM];
     let mut clips = [0u64; WORD_ROOM];
     let mut tags = [0u64; WORD_ROOM];
     let mut out = [0u8; TEXT_ROOM];
     let waits = run(
-        &mut from, &mut to, &mut text, &mut clips, &mut tags, &mut out,
+        &mut stdin,
+        &mut from,
+        &mut stdout,
+        &mut to,
+        &mut text,
+        &mut clips,
+        &mut tags,
+        &mut out,
     );
     // Whether it went needs no word: after a write that failed nothing is written, and a reader that finds no last line knows.
-    output::flush(STDOUT_FILENO, &to, waits);
+    output::flush(&mut stdout, &to, waits);
 }
