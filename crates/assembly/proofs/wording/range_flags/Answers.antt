@@ -1,5 +1,5 @@
 -- `range_flags` meets its contract: each arm by what the matches tell of the range and of its offset. Assumes nothing.
-use Rattle.assembly.proofs.words.range_flags.Goals as goal
+use Rattle.assembly.proofs.wording.range_flags.Goals as goal
 
 pub returns-in-At : goal.returns-in-At
 returns-in-At c = rw (c.in-Present.is, c.in-At.is)

@@ -1,5 +1,5 @@
 -- `part_words` meets its contract: each arm by what the match tells. Assumes nothing.
-use Rattle.assembly.proofs.words.part_words.Goals as goal
+use Rattle.assembly.proofs.wording.part_words.Goals as goal
 
 pub returns-in-Present : goal.returns-in-Present
 returns-in-Present c = rw c.in-Present.is

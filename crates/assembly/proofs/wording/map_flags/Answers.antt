@@ -3,7 +3,7 @@ use native.Mathlib.Omega.{arith}
 use Rattle.attributes.specs.Answers.{opt_range_of}
 use Rattle.tables.specs.Layout.{has_map_range, has_map_offset}
 use Rattle.assembly.proofs.Groups.{range_flags_le}
-use Rattle.assembly.proofs.words.map_flags.Goals as goal
+use Rattle.assembly.proofs.wording.map_flags.Goals as goal
 
 pub overflow_add-result : goal.overflow_add-result
 overflow_add-result c = omega (arith, range_flags_le has_map_range has_map_offset (opt_range_of c.in-Is.m.byte_range))
