@@ -1,5 +1,5 @@
 -- `write_full`: past a failure it answers true. Assumes nothing.
-use mathlib.Core.Path.{refl, sym, ◌∙◌}
+use mathlib.Core.Path.{refl, sym}
 use mathlib.Core.Bool.{false≢true}
 use Rattle.output.proofs.write_full.Goals as goal
 
