@@ -1,6 +1,6 @@
 // Buffered output: a lent buffer, how many of its bytes wait to be written, and whether a write failed. Each call takes that and answers the next one.
-// What waits is fixed byte for byte, and a failure stays. That a full buffer reaches the descriptor, and that a write which fails is told, no contract can say:
-// that shows only in runs.
+// What waits is fixed byte for byte, and a failure stays. What a writer holds grows by what was put, unless a write failed: of a writer that says what it holds.
+// The standard streams don't say it: what reaches them, and that a write which fails is told, shows only in runs.
 #![tactic(auto)]
 
 ghost use Rattle.std.specs.Prelude.{◌≡◌, true, false, [], ◌∷◌, ◌≤◌, ◌<◌, length, take, set};
