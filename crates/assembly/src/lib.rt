@@ -6,7 +6,7 @@ use text::Span;
 
 pub mod head; // version, target, sequences, type, marks
 pub mod segment; // a clip's tags by value
-pub mod words; // the words of a record
+pub mod wording; // the words of a record
 pub mod making; // the clip in the making, as words
 
 // A clip by value: its URI, what its tags said, its first unknown tag and how many.

@@ -10,8 +10,8 @@ ghost use Rattle.assembly.specs.Inside.Making as rule;
 ghost use Rattle.assembly.specs.Inside.Making.{making_seen};
 
 use crate::segment::SegmentMap;
-use crate::words;
-use crate::words::{MapWords, Two};
+use crate::wording;
+use crate::wording::{MapWords, Two};
 use attributes::ext_map::OptRange;
 use lengths::binary32;
 use lengths::duration::{Extinf, Length};
@@ -37,12 +37,12 @@ impl Making {
     {
         Making {
             length: 0,
-            title: words::part_words(Part::Absent),
+            title: wording::part_words(Part::Absent),
             range_flags: 0,
             break_flags: 0,
             map_flags: 0,
-            range: words::range_words(OptRange::Absent),
-            map: words::map_words(SegmentMap::Absent),
+            range: wording::range_words(OptRange::Absent),
+            map: wording::map_words(SegmentMap::Absent),
         }
     }
 
@@ -56,7 +56,7 @@ impl Making {
         match duration {
             Length::Ns(length) => {
                 m.length = length;
-                m.title = words::part_words(title);
+                m.title = wording::part_words(title);
             }
             Length::TooManyDigits => {}
         }
@@ -72,8 +72,8 @@ impl Making {
             ClipTag::Timed(e) => return self.timed(e),
             ClipTag::Ranged(r) => {
                 let range = OptRange::Present(r);
-                m.range = words::range_words(range);
-                m.range_flags = words::range_flags(
+                m.range = wording::range_words(range);
+                m.range_flags = wording::range_flags(
                     layout::HAS_RANGE as u8,
                     layout::HAS_RANGE_OFFSET as u8,
                     range,
@@ -82,8 +82,8 @@ impl Making {
             ClipTag::Discontinuity => m.break_flags = layout::HAS_DISCONTINUITY as u8,
             ClipTag::Mapped(map) => {
                 let map = SegmentMap::Is(map);
-                m.map = words::map_words(map);
-                m.map_flags = words::map_flags(map);
+                m.map = wording::map_words(map);
+                m.map_flags = wording::map_flags(map);
             }
         }
         m

@@ -89,8 +89,8 @@ module _ (step : Parser Taken) (text : List ℕ) where
     -- tables that fit have room for all words
     pub weighed_fillable : (clips tags : List ℕ) → clips_fit clips made ≡ true → tags_fit tags kept ≡ true → Fillable step text kept clips tags
     weighed_fillable clips tags e f = record {
-      clips-room = omega (arith, weighed_clips, count_clips begin (steps_by step text), fits_words clip_words made clips e, clips_words_length (clips_of begin (steps_by step text)));
-      tags-room = fits_words tag_words kept tags f;
+      clips_room = omega (arith, weighed_clips, count_clips begin (steps_by step text), fits_words clip_words made clips e, clips_words_length (clips_of begin (steps_by step text)));
+      tags_room = fits_words tag_words kept tags f;
     }
 
 -- ---- the exits
@@ -121,8 +121,8 @@ module _ (step : Parser Taken) {R : Type 0} (view : R → Answer Read) (text : L
         let room : length (tags_words ts) ≤ length tags = omega (arith, fits_words tag_words kept tags g, tags_words_length ts, length-take kept (tags_of (steps_by step text))) in
         record {
           answered = e ∙ sym a;
-          clips-after = rw a (w.clips_filled ∙ sets_over clips (clips_laid step text) (weighed_fillable step text k clips tags f g).clips_room);
-          tags-after = rw (a, weighed_tags step text k) (w.tags_filled ∙ sets_over tags (tags_words ts) room);
+          clips_after = rw a (w.clips_filled ∙ sets_over clips (clips_laid step text) (weighed_fillable step text k clips tags f g).clips_room);
+          tags_after = rw (a, weighed_tags step text k) (w.tags_filled ∙ sets_over tags (tags_words ts) room);
         }
 
 -- by the call's own step

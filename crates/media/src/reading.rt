@@ -13,7 +13,7 @@ ghost use Rattle.media.specs.Inside.Passes.{state_seen, counted_of};
 use crate::Read;
 use crate::state::{Counts, State};
 use assembly::head::Head;
-use assembly::words;
+use assembly::wording;
 use chains::ext_map::MAP_MEMORY;
 use leaves::basic_tags::ExtTag;
 use steps::common;
@@ -140,7 +140,7 @@ impl State {
     {
         let met = self.counts.first + self.counts.pending;
         if met < kept {
-            let values = words::tag_words(t);
+            let values = wording::tag_words(t);
             record::store_tag(tags, met, &values);
         }
     }

@@ -6,7 +6,7 @@ use Prim.Native.Nat.{ℕ, ◌+◌, ◌-◌, ◌≤◌, ◌<◌, min}
 use native.Mathlib.Nat.{min-eq_left, min-eq_right, min-zero}
 use native.Mathlib.Omega.{arith}
 use lib.Dec.{eqb, leb}
-use lib.ListN.{length, take, drop, drop_of_length-le}
+use lib.ListN.{take, drop, drop_of_length-le}
 use lib.Seq.{take_all, take-nil}
 use borrow.Author.Tests.{leb-true, leb-false}
 use Rattle.tables.specs.Table.{listed}

@@ -77,11 +77,11 @@ in_numbers text clips tags r out s clips₁ tags₁ clips' tags' r' h e p b =
     let g = read_given r' b.head r.clips r.tags s.length (p.answered ∙ ap read_numbers b.answered) in
     record {
       accepted = g.number_is;
-      clip-count = g.clips_are;
-      tag-count = g.tags_are;
-      stop-place = g.stop_is;
+      clip_count = g.clips_are;
+      tag_count = g.tags_are;
+      stop_place = g.stop_is;
       head = h;
-      head-of = e;
+      head_of = e;
       head' = b.head;
       head-of' = g.head_is;
       agree = b.agree;
@@ -103,7 +103,7 @@ module _ {text clips₀ tags₀ clips tags : List ℕ} {r : readᵈ.Read} {out�
         accepted = f.accepted;
         writes = written_as text clips r.clips tags r.tags r.head h out₀ out s f.head_is c.writes;
         wrote = g.1 ∙ ap given size;
-        reads-again = parsed_as (take s.length out) clips₁ tags₁ clips' tags' r' c.reads_again;
+        reads_again = parsed_as (take s.length out) clips₁ tags₁ clips' tags' r' c.reads_again;
       }) a)
 
 -- what was read is written wherever it has room

@@ -84,7 +84,7 @@ clean_clips = (
     tags = (foo_clean.0, (foo_clean.1, tt));
     length = (omega arith, every_all _ (bytes "Title") refl);
     uri = uri_clean;
-    no-comma = refl;
+    no_comma = refl;
   },
   (record { map = tt; range = tt; tags = tt; length = (omega arith, every_all _ [] refl); uri = uri_clean; no_comma = refl }, tt),
 )

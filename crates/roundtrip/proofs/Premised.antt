@@ -96,7 +96,7 @@ module _ (text : List ℕ) where
           tags = all_take (λ x. Clean (tag_line_of text x)) c.tag_count (drop c.first_tag tags) (all_drop (λ x. Clean (tag_line_of text x)) c.first_tag tags clean-tags);
           length = (h.1.length, title_every c.segment.title h.1.title);
           uri = (some_shown (is_none_of (bytes "\r\n")) text u h.0.0, (not-true mark (and_left (not mark) (not comma) e), (h.0.1, passes_shown (is_none_of (bytes "\r\n")) text u h.0.0)));
-          no-comma = not-true comma (and_right (not mark) (not comma) e);
+          no_comma = not-true comma (and_right (not mark) (not comma) e);
         }
 
     pub clips_clean : (cs : List Clip) → All (SoundClipOf text) cs → plain_uris text cs ≡ true → All (CleanClip text tags) cs

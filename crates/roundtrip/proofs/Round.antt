@@ -87,9 +87,9 @@ module _ (text : List ℕ) (clipRoom tagRoom : ℕ) (h : Head) (clips tags stop 
       let back : Accepted v clipRoom₁ tagRoom₁ (read (head_read v) clips tags (length v)) =
       record {
         admits = admits v let_in;
-        is-media = verdict_media text (head_read text) (clips_read text) (tags_read text);
-        clips-fit = ap (λ (n : ℕ). leb (n * clip_words) clipRoom₁) (sym same.count ∙ counts) ∙ le-leb (clips * clip_words) clipRoom₁ clips-fit;
-        tags-fit = ap (λ (n : ℕ). leb (n * tag_words) tagRoom₁) (sym same.kept ∙ kept) ∙ le-leb (tags * tag_words) tagRoom₁ tags-fit;
+        is_media = verdict_media text (head_read text) (clips_read text) (tags_read text);
+        clips_fit = ap (λ (n : ℕ). leb (n * clip_words) clipRoom₁) (sym same.count ∙ counts) ∙ le-leb (clips * clip_words) clipRoom₁ clips-fit;
+        tags_fit = ap (λ (n : ℕ). leb (n * tag_words) tagRoom₁) (sym same.kept ∙ kept) ∙ le-leb (tags * tag_words) tagRoom₁ tags-fit;
         answer = rw (← same.count, ← same.kept, counts, kept, stops_again text sound uris names);
       } in
       let accepts = parts_accepted v clipRoom₁ tagRoom₁ (read (head_read v) clips tags (length v)) back (λ x. again_met text v x (says_again text sound uris names)) in

@@ -1,7 +1,7 @@
 -- The runs of unknown tags, added up clip by clip, and one pass over the clips: what holds before clip k, and why each way out is the rule.
 -- Rests on the laws of `every`. Assumes nothing.
 use mathlib.Core.Path.{◌≡◌, refl, sym, ◌∙◌}
-use mathlib.Core.Bool.{Bool, true, false, not, ◌&&◌, and_comm, and_assoc, and-false}
+use mathlib.Core.Bool.{Bool, true, false, ◌&&◌, and_comm, and_assoc, and-false}
 use mathlib.Core.List.{List}
 use Prim.Native.Nat.{ℕ, ◌+◌, ◌-◌, ◌≤◌, ◌<◌}
 use native.Mathlib.Nat.{le_refl}
@@ -9,7 +9,7 @@ use native.Mathlib.Decide.{le_ind}
 use native.Mathlib.Numerals.{add-one}
 use native.Mathlib.Omega.{arith}
 use lib.Dec.{eqb}
-use borrow.Author.Tests.{eq-eqb, ne_eqb, not-true, not-false}
+use borrow.Author.Tests.{eq-eqb, ne_eqb}
 use Rattle.tables.specs.Layout as layout
 use Rattle.tables.specs.Table.{every, clips_fit, tags_fit, clip_word}
 use Rattle.tables.proofs.Every.{every_none, every_step, every_fails}
@@ -91,8 +91,8 @@ rule_in_order text h clips n tags m =
     rw (and_comm (every (tag_keeps text tags) m) (runs_adjoin clips n m), ← and_assoc (every (clip_keeps text clips) n) (runs_adjoin clips n m) (every (tag_keeps text tags) m))
 
 -- a test that fails decides, and one that passes leaves it to the next
-pub fails : {r a : Bool} (b : Bool) → r ≡ a → not r ≡ true → false ≡ a && b
-fails {r} b e t = rw (sym e ∙ not-true r t)
+pub fails : {r a : Bool} (b : Bool) → r ≡ a → r ≡ false → false ≡ a && b
+fails b e t = rw (sym e ∙ t)
 
-pub passes : {r a b x : Bool} → r ≡ a → not r ≡ false → x ≡ b → x ≡ a && b
-passes {r} e t h = rw (sym e ∙ not-false r t) h
+pub passes : {r a b x : Bool} → r ≡ a → r ≡ true → x ≡ b → x ≡ a && b
+passes e t h = rw (sym e ∙ t) h

@@ -17,7 +17,7 @@ same_length c = search rules
 returns : tie.Need-returns
 returns c =
     let p = c.before.before.before.write.ensures in
-    record { answered = c.of-cue-written.ensures ∙ ap written_numbers p.answered; out_after = p.out-after }
+    record { answered = c.of-cue-written.ensures ∙ ap written_numbers p.answered; out_after = p.out_after }
 
 pub ledgerfern-cue-write-spec : {M : Type 1} → statement M
 ledgerfern-cue-write-spec =

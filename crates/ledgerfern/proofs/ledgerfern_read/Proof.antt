@@ -20,7 +20,7 @@ same-length-2 c = search rules
 returns : tie.Need-returns
 returns c =
     let p = c.before.before.before.before.before.parse-media-playlist.ensures in
-    record { answered = c.of-read.ensures ∙ ap read_numbers p.answered; clips_after = p.clips-after; tags_after = p.tags-after }
+    record { answered = c.of-read.ensures ∙ ap read_numbers p.answered; clips_after = p.clips_after; tags_after = p.tags_after }
 
 pub ledgerfern-read-spec : {M : Type 1} → statement M
 ledgerfern-read-spec =

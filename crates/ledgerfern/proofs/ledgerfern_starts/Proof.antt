@@ -17,7 +17,7 @@ same_length c = search rules
 returns : tie.Need-returns
 returns c =
     let p = c.before.before.before.all-starts.ensures in
-    record { answered = c.of-starts.ensures ∙ ap starts_numbers p.answered; out_after = p.out-after }
+    record { answered = c.of-starts.ensures ∙ ap starts_numbers p.answered; out_after = p.out_after }
 
 pub ledgerfern-starts-spec : {M : Type 1} → statement M
 ledgerfern-starts-spec =

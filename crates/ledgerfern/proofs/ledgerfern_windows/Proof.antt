@@ -17,7 +17,7 @@ same_length c = search rules
 returns : tie.Need-returns
 returns c =
     let p = c.before.before.before.all-windows.ensures in
-    record { answered = c.of-windows.ensures ∙ ap windows_numbers p.answered; out_after = p.out-after }
+    record { answered = c.of-windows.ensures ∙ ap windows_numbers p.answered; out_after = p.out_after }
 
 pub ledgerfern-windows-spec : {M : Type 1} → statement M
 ledgerfern-windows-spec =

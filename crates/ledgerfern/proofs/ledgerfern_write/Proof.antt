@@ -26,7 +26,7 @@ of-written-requires c κs = search rules
 
 returns : tie.Need-returns
 returns c =
-    let none-there = sym c.before.before.before.head-of.ensures ∙ ap head_res c.before.enum_told.given.1 in
+    let none-there = sym c.before.before.before.head_of.ensures ∙ ap head_res c.before.enum_told.given.1 in
     no_head none-there c.of-no-head.ensures
 
 same_length : tie.Need-same-length
@@ -36,9 +36,9 @@ returns-2 : tie.Need-returns-2
 returns-2 c =
     let wrote = c.before.before.before in
     let is = wrote.before.before.before in
-    let there = sym is.before.before.head-of.ensures ∙ ap head_res is.h.given.1 in
+    let there = sym is.before.before.head_of.ensures ∙ ap head_res is.h.given.1 in
     let p = wrote.write-to.ensures in
-    a_head there c.of-written.ensures p.answered p.out-after
+    a_head there c.of-written.ensures p.answered p.out_after
 
 pub ledgerfern-write-spec : {M : Type 1} → statement M
 ledgerfern-write-spec =

@@ -1,0 +1,11 @@
+-- `range_words` meets its contract: each arm by what the matches tell of the range and of its offset. Assumes nothing.
+use Rattle.assembly.proofs.wording.range_words.Goals as goal
+
+pub returns-in-At : goal.returns-in-At
+returns-in-At c = rw (c.in-Present.is, c.in-At.is)
+
+pub returns-in-Absent-offset : goal.returns-in-Absent-offset
+returns-in-Absent-offset c = rw (c.in-Present.is, c.in-Absent-offset.is)
+
+pub returns-in-Absent : goal.returns-in-Absent
+returns-in-Absent c = rw c.in-Absent.is

@@ -1,7 +1,0 @@
--- `tag_words` meets its contract: the rest is what `part_words` ensures. Assumes nothing.
-use Rattle.assembly.specs.Words.{tag_words_of}
-use Rattle.assembly.proofs.words.tag_words.Goals as goal
-
-pub returns : goal.returns
-unfolding tag_words_of
-returns c = rw (← c.part_words-rest.ensures)

@@ -1,0 +1,36 @@
+-- `next_clip`: a clip's record by what `clip` ensures, and nothing where the step gives no clip. Assumes nothing.
+use Prim.Native.Nat.{ℕ}
+use mathlib.Core.Path.{◌≡◌, refl, sym, ap, ◌∙◌}
+use mathlib.Core.List.{List, []}
+use Rattle.starts.specs.Answers.{cursor_of, step_of}
+use Rattle.starts.specs.Starts.{Cursor}
+use Rattle.starts.specs.declared.Row as rowᵈ
+use Rattle.starts.specs.declared.Starts as startsᵈ
+use Rattle.starts.specs.declared.Step as stepᵈ
+use Rattle.starts.specs.declared.Step.TheVariants as stepᵛ
+use Rattle.put.proofs.Putting.{puts_none, puts_as}
+use Rattle.cue_writer.specs.Inside.Pass.{step_bytes, step_after}
+use Rattle.cue_writer.proofs.rows.next_clip.Goals as goal
+
+no-clip : (words : List ℕ) (c : Cursor) (x : stepᵈ.Step) → ((r : rowᵈ.Row) (s : startsᵈ.Starts) → x ≡ stepᵛ.Clip r s → ⊥)
+    → (c ≡ step_after c (step_of x)) × ([] ≡ step_bytes words (step_of x))
+no-clip words c (stepᵛ.Refused r) w = (refl, refl)
+no-clip words c stepᵛ.Done w = (refl, refl)
+no-clip words c (stepᵛ.Clip r s) w = absurd (w r s refl)
+
+pub returns-in-Clip : goal.returns-in-Clip
+returns-in-Clip c =
+    let e = sym (ap step_of c.in-Clip.is) ∙ c.next.ensures in
+    record {
+      moved = ap (step_after _) e;
+      puts = puts_as (ap (step_bytes _) e) c.clip.ensures;
+    }
+
+pub returns-in_default : goal.returns-in_default
+returns-in_default c =
+    let a = c.args in
+    let none = no-clip a.words.now (cursor_of a.s.starts) c.next.result c.in_default.not-Clip in
+    record {
+      moved = none.0 ∙ ap (step_after _) c.next.ensures;
+      puts = puts_as (none.1 ∙ ap (step_bytes _) c.next.ensures) puts_none;
+    }
