@@ -1,12 +1,11 @@
 -- The text of a clip with no map, no discontinuity and no unknown tags is that of its words. Assumes nothing.
-use mathlib.Core.Path.{◌≡◌, refl, ap, sym, ◌∙◌}
-use mathlib.Core.Bool.{Bool, true, false, not, cond, ◌&&◌}
-use mathlib.Core.List.{List, [], ◌++◌, map}
+use mathlib.Core.Path.{◌≡◌, refl, sym, ◌∙◌}
+use mathlib.Core.Bool.{Bool, true, false, not, ◌&&◌}
+use mathlib.Core.List.{List, [], ◌++◌}
 use mathlib.Core.Option.{none, some}
-use Prim.Native.Nat.{ℕ, ◌+◌, ◌*◌, ◌/◌, ◌%◌, ◌≤◌, ◌<◌}
+use Prim.Native.Nat.{ℕ, ◌/◌, ◌%◌, ◌<◌}
 use native.Mathlib.Omega.{arith}
 use lib.Dec.{eqb, ltb}
-use lib.ListN.{length, take, drop}
 use borrow.Author.Tests.{ltb-true, eqb-true, ne_eqb}
 use Rattle.text.specs.Nom.{Span, span}
 use Rattle.text.specs.Util.{range}
@@ -14,9 +13,8 @@ use Rattle.text.specs.Spans.{shown}
 use Rattle.text.proofs.Laws.{and_left, and_right}
 use Rattle.tables.specs.Layout as layout
 use Rattle.tables.specs.Table.{clip_word, has_flag}
-use Rattle.assembly.specs.Assembly.{Clip}
-use Rattle.records.specs.Records.{optional, part_at, range_at, map_at, clip_at, tags_at}
-use Rattle.playlist.specs.Lines.{discontinuity_line, byte_range_line, extinf_line, uri_line, line_bytes, line_if, lines_text, map_line_of, tag_line_of, title_text}
+use Rattle.records.specs.Records.{optional, part_at, range_at, map_at, clip_at}
+use Rattle.playlist.specs.Lines.{byte_range_line, extinf_line, uri_line, line_bytes, line_if, lines_text, map_line_of, title_text}
 use Rattle.playlist.specs.Inside.Texts.{run_text, clip_text}
 use Rattle.playlist.proofs.Lines.{no_line, one_line}
 use Rattle.playlist.proofs.Groups.{clip_text_lem}

@@ -1,6 +1,6 @@
 -- What clips take at most, by their spans and flags: no number is longer than its limit, and no line than with the longest numbers. And what they then leave of
 -- a room, clip after clip. Assumes nothing.
-use mathlib.Core.Path.{◌≡◌, ap, sym}
+use mathlib.Core.Path.{◌≡◌, ap}
 use mathlib.Core.Bool.{Bool, true, false, cond, not, ◌&&◌}
 use mathlib.Core.List.{List, [], ◌∷◌, ◌++◌}
 use mathlib.Core.Option.{Option, none, some}
@@ -16,9 +16,8 @@ use Rattle.digits.proofs.Length.{length_size}
 use Rattle.tables.specs.Layout as layout
 use Rattle.tables.specs.Table.{listed, clip_word, has_flag}
 use Rattle.tables.proofs.Listed.{listed_left, listed_over}
-use Rattle.assembly.specs.Assembly.{Clip}
 use Rattle.records.specs.Records.{optional, part_at, range_at, map_at, clip_at, tag_at}
-use Rattle.playlist.specs.Lines.{map_line, extinf_line, uri_line, discontinuity_line, byte_range_line, range_bytes, map_range_bytes, line_bytes, line_if, line_where, lines_text}
+use Rattle.playlist.specs.Lines.{extinf_line, discontinuity_line, byte_range_line, range_bytes, map_range_bytes, line_bytes, line_if, lines_text}
 use Rattle.measure.specs.Inside.Below.{WordsBelow}
 use Rattle.measure.specs.Inside.Sizes.{span_size, part_size, map_size, clip_size, tags_size, full_size, clips_size}
 use Rattle.measure.proofs.Sizes.{where_long, range_long, map_range_long, clips_none, clips_more}

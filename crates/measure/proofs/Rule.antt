@@ -4,7 +4,7 @@ use mathlib.Core.Path.{◌≡◌, ap}
 use mathlib.Core.Bool.{Bool, true, false, not, ◌&&◌}
 use mathlib.Core.List.{List}
 use mathlib.Core.Option.{Option, none, some}
-use Prim.Native.Nat.{ℕ, ◌*◌, ◌≤◌, ◌<◌}
+use Prim.Native.Nat.{ℕ, ◌*◌, ◌≤◌}
 use native.Mathlib.Omega.{arith}
 use lib.Dec.{eqb}
 use lib.ListN.{length}
@@ -12,7 +12,7 @@ use borrow.Author.Tests.{leb-true}
 use Rattle.text.specs.Nom.{span}
 use Rattle.text.specs.BasicTags.{PlaylistType, event, vod, other}
 use Rattle.tables.specs.Layout as layout
-use Rattle.tables.specs.Table.{fits, clip_word, tag_word, has_flag}
+use Rattle.tables.specs.Table.{fits, clip_word, has_flag}
 use Rattle.attributes.specs.ExtMap.{ext_map}
 use Rattle.assembly.specs.Assembly.{Head, Clip}
 use Rattle.records.specs.Records.{optional, part_at, range_at, map_at, clip_at, tag_at}
@@ -71,13 +71,13 @@ module _ (text : List ℕ) (n : ℕ) (most : length text ≤ n) where
         record {
           uri = (kept.uri.ordered, omega (arith, kept.uri.within));
           title = (kept.title.ordered, omega (arith, kept.title.within));
-          map-uri = (kept.map_uri.ordered, omega (arith, kept.map_uri.within));
-          length-below = kept.length_below;
+          map_uri = (kept.map_uri.ordered, omega (arith, kept.map_uri.within));
+          length_below = kept.length_below;
         }
 
     pub table_held : c * layout.clip_words ≤ length clips
     unfolding fits
-    table_held = leb-true (c * layout.clip_words) (length clips) (rule_kept text h clips c tags m r).clips-fit
+    table_held = leb-true (c * layout.clip_words) (length clips) (rule_kept text h clips c tags m r).clips_fit_lem
 
     -- all that measuring asks, and all that its bound asks
     pub rule_below : TypeBelow n h.type × (RunsWithin clips c m × (TagsBelow n tags m × ClipsBelow n clips c))

@@ -4,10 +4,10 @@ use mathlib.Core.Path.{◌≡◌, refl, ap, ◌∙◌}
 use mathlib.Core.Bool.{Bool, true, false, cond}
 use mathlib.Core.List.{List, [], ◌∷◌, ◌++◌, map}
 use mathlib.Core.Option.{Option, none, some}
-use Prim.Native.Nat.{ℕ, zero, suc, ◌+◌, ◌-◌, ◌≤◌, ◌<◌}
+use Prim.Native.Nat.{ℕ, zero, suc, ◌+◌, ◌-◌, ◌≤◌}
 use native.Mathlib.Omega.{arith}
 use lib.Dec.{eqb}
-use lib.ListN.{length, take, drop, length-append, length-drop}
+use lib.ListN.{length, drop, length-append, length-drop}
 use lib.Seq.{length-take-le}
 use Rattle.text.specs.Nom.{Span, span, bytes}
 use Rattle.text.specs.Util.{ByteRange}
@@ -22,9 +22,9 @@ use Rattle.tags.specs.Tags.{literal, byte_range_row}
 use Rattle.assembly.specs.Assembly.{Head, Clip}
 use Rattle.records.specs.Records.{clip_at, tag_at, tags_at}
 use Rattle.rule9.specs.Rule9.{keeps_rule}
-use Rattle.playlist.specs.Lines.{Line, map_line, extinf_line, unknown_line, uri_line, playlist_type_line, version_line, independent_segments_line, target_duration_line, media_sequence_line, discontinuity_sequence_line, i_frames_only_line, discontinuity_line, byte_range_line, end_list_line, header_line, range_bytes, map_range_bytes, rest_bytes, line_bytes, line_if, line_where, line_unless_zero, lines_text, type_text, type_line_of, map_line_of, tag_line_of, title_text, rest_lines, head_lines, clip_lines, clips_lines}
+use Rattle.playlist.specs.Lines.{Line, map_line, extinf_line, uri_line, independent_segments_line, media_sequence_line, discontinuity_sequence_line, i_frames_only_line, discontinuity_line, byte_range_line, end_list_line, range_bytes, map_range_bytes, rest_bytes, line_bytes, line_if, line_where, line_unless_zero, lines_text, type_line_of, map_line_of, tag_line_of, title_text, head_lines, clip_lines, clips_lines}
 use Rattle.playlist.specs.Calls.{written_text}
-use Rattle.playlist.specs.Inside.Texts.{tags_text, run_text, clip_text, clips_text}
+use Rattle.playlist.specs.Inside.Texts.{tags_text, clip_text, clips_text}
 use Rattle.playlist.proofs.Lines.{no_line, one_line, more_lines, lines_append, line_where_lem, line_unless_zero_lem}
 use Rattle.playlist.proofs.Groups.{rest_text, head_text, clip_text_lem, written_text_lem}
 use Rattle.measure.proofs.Rule.{type_below, clips_below, tags_below, runs_within}

@@ -16,9 +16,8 @@ use Rattle.tables.specs.Table.{tag_stored}
 use Rattle.tables.proofs.Records.{words_fit}
 use Rattle.tables.proofs.Sets.{sets_append, stored_fits}
 use Rattle.tags.specs.Tags.{Tag, of_head, of_clip, unknown, comment, uri, left_out, Taken, took}
-use Rattle.assembly.specs.Assembly.{State, next, clip, clip_in, tag_in, clips_of, tags_of, segment_of, counts_of, clip_count}
+use Rattle.assembly.specs.Assembly.{State, next, clip, clip_in, tag_in, clips_of, tags_of, segment_of, clip_count}
 use Rattle.assembly.specs.Words.{tag_words_of, clips_words, tags_words}
-use Rattle.assembly.specs.Inside.Making.{segment_words}
 use Rattle.assembly.proofs.Groups.{words_after_lem, record_words_lem}
 use Rattle.assembly.proofs.Records.{clips_words_length, tags_words_length, clips_words_one, tags_words_one, clips_words_append, tags_words_append}
 use Rattle.assembly.proofs.Counts.{met_tags, next_clips, next_tags}

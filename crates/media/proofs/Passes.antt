@@ -1,6 +1,6 @@
 -- A pass over the steps, by any rule of a step that moves on within the text: what is left, done from here, is the whole. Rests on the laws of `many0`.
 -- Assumes nothing.
-use mathlib.Core.Path.{◌≡◌, refl}
+use mathlib.Core.Path.{◌≡◌}
 use mathlib.Core.List.{List, ◌∷◌}
 use mathlib.Core.Option.{none, some}
 use Prim.Native.Nat.{ℕ, ◌-◌, ◌≤◌, ◌<◌}

@@ -15,7 +15,7 @@ use Rattle.tables.proofs.Refusals.{front_or, given_refuses}
 use Rattle.verdict.specs.Calls.{admitted, verdict_of}
 use Rattle.tags.specs.Tags.{Taken, step}
 use Rattle.assembly.specs.Assembly.{Head, head_of, clip_count, kept_tags}
-use Rattle.media.specs.Calls.{stop_by, steps_of, stop_of, Read, read, Room, room, room_from, answer_by, parse_media_playlist, room_by, room_for, clips_read, tags_read, ParsedAs}
+use Rattle.media.specs.Calls.{stop_by, steps_of, stop_of, Read, read, Room, room, room_from, parse_media_playlist, room_by, room_for, clips_read, tags_read, ParsedAs}
 use Rattle.media.specs.Inside.Passes.{first_pass}
 use Rattle.media.proofs.Answered.{Passed, Fine, last, front_weighed, weighed_read, weighed_clips, weighed_tags}
 use Rattle.media.proofs.ThrownOut.{clips_counted, tags_counted}

@@ -17,7 +17,7 @@ use Rattle.lengths.proofs.Ahead.{duration_title_ahead}
 use Rattle.digits.specs.Digits.{length_text}
 use Rattle.tables.specs.Layout.{length_limit}
 use Rattle.tags.specs.Tags.{timed, ranged, of_clip, unknown, uri, playlist_tag, segment_tag, other_tag, media_segment_tag, media_playlist_tag, took, literal, byte_range_row, extinf_row}
-use Rattle.tags.proofs.Local.{mvTag, playlist_tag_local, segment_tag_local}
+use Rattle.tags.proofs.Local.{mv_tag, playlist_tag_local, segment_tag_local}
 use Rattle.tags.proofs.Begins.{not_hash}
 use Rattle.text.specs.Spans.{shown_part}
 use Rattle.playlist.specs.Lines.{byte_range_line, unknown_line, extinf_line, uri_line, range_bytes, line_bytes}
@@ -40,6 +40,7 @@ module _ (text : List ℕ) (at : ℕ) (xs : List ℕ) (s : Stops is_multispace x
   no_hash x b q e = false≢true (sym q ∙ rw (eq-eqb x 35 e))
 
   pub takes_uri : (u : List ℕ) → Some u → begins (bytes "#") u ≡ false → Every (is_none_of (bytes "\r\n")) u → drop at text ≡ line_bytes (uri_line u) ++ xs → TakesLine text at (uri_line u)
+  takes_uri [] h q e d = elim h [ ]
   takes_uri (x ∷ b) h q e d =
       let u = x ∷ b in
       let d0 : drop at text ≡ u ++ (bytes "\n" ++ xs) = d ∙ append_assoc u (bytes "\n") xs in
@@ -81,13 +82,14 @@ module _ (text : List ℕ) (at : ℕ) where
   unfolding media_playlist_tag media_segment_tag other_tag
   at_unknown b e n k d g =
       let i = in_text text at 35 b d in
-      let f = fails_ahead mvTag playlist_tag playlist_tag_local text at (35 ∷ b) (omega arith) d k.0.0 k.0.1 in
-      let c = fails_ahead mvTag segment_tag segment_tag_local text at (35 ∷ b) (omega arith) d k.1.0 k.1.1 in
+      let f = fails_ahead mv_tag playlist_tag playlist_tag_local text at (35 ∷ b) (omega arith) d k.0.0 k.0.1 in
+      let c = fails_ahead mv_tag segment_tag segment_tag_local text at (35 ∷ b) (omega arith) d k.1.0 k.1.1 in
       rw (in_ahead text at 35 b d, f, c, g)
 
 module _ (text : List ℕ) (at : ℕ) (xs : List ℕ) (s : Stops is_multispace xs) where
   pub takes_unknown : (name : List ℕ) (rest : Option (List ℕ)) → Some name → Every (is_none_of (bytes "\r\n:")) name → RestFits rest
       → NoneTakes (line_bytes (unknown_line name rest) ++ xs) → drop at text ≡ line_bytes (unknown_line name rest) ++ xs → TakesLine text at (unknown_line name rest)
+  takes_unknown [] rest h en er k d = elim h [ ]
   takes_unknown (x ∷ name) none h en er k d =
       let a = at + 5 in
       let b = a + length (x ∷ name) in

@@ -110,7 +110,7 @@ asks_head text hd k xs =
 pub record CleanClip (text : List ℕ) (all_tags : List ExtTag) (c : Clip) : Type 0 where
   pub map : If (λ x. Clean (map_line_of text x)) c.segment.map
   pub range : If NumbersFit c.segment.range
-  pub tags : All (λ x. Clean (tag_line_of text x)) (take c.tag_count (drop c.first_tag all-tags))
+  pub tags : All (λ x. Clean (tag_line_of text x)) (take c.tag_count (drop c.first_tag all_tags))
   pub length : Clean (extinf_line c.segment.length (title_text text c.segment.title))
   pub uri : Clean (uri_line (shown text c.uri))
   -- "no URI begins with a comma"

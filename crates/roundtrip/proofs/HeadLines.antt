@@ -2,7 +2,7 @@
 use Prim.Native.Nat.{ℕ, ◌+◌, ◌^◌, ◌<◌}
 use mathlib.Core.Path.{◌≡◌, refl, ◌∙◌, ap}
 use mathlib.Core.Bool.{Bool, true, false, cond}
-use mathlib.Core.List.{List, ◌∷◌, ◌++◌, append_assoc}
+use mathlib.Core.List.{List, [], ◌∷◌, ◌++◌, append_assoc}
 use native.Mathlib.Omega.{arith}
 use lib.ListN.{length, drop}
 use Rattle.text.specs.Nom.{ok, span, span_or, bytes, is_none_of, tagged, begins, is_multispace}
@@ -77,6 +77,7 @@ module _ (text : List ℕ) (at : ℕ) (xs : List ℕ) where
 
 module _ (text : List ℕ) (at : ℕ) (xs : List ℕ) (s : Stops is_multispace xs) where
   pub takes_type : (t : List ℕ) → Some t → Every (is_none_of (bytes "\r\n")) t → drop at text ≡ line_bytes (playlist_type_line t) ++ xs → TakesLine text at (playlist_type_line t)
+  takes_type [] h e d = elim h [ ]
   takes_type (x ∷ b) h e d =
       let f = literal playlist_type_row in
       let v = typed (x ∷ b) (span (at + 21) (at + 21 + length (x ∷ b))) in

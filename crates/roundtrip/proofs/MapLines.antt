@@ -74,6 +74,7 @@ module _ (text : List ℕ) (at : ℕ) (xs : List ℕ) (s : Stops is_multispace x
       map_step text at u (some r) xs d s n (span (at + 11) n) c (map_range_ahead text (at + 11) y val ev z rng (bytes "\n" ++ xs) er refl d1 r _ v)
 
   pub takes_map : (u : List ℕ) (r : Option ByteRange) → Some u → Every (is_none_of (bytes "\"")) u → RangeFits r → drop at text ≡ line_bytes (map_line u r) ++ xs → TakesLine text at (map_line u r)
+  takes_map [] r h ev k d = elim h [ ]
   takes_map (y ∷ val) none h ev k d =
       let u = y ∷ val in
       let n = uri_to (at + 11) u + 1 in

@@ -71,7 +71,7 @@ module _ (text : List ℕ) where
       gives_unknown : Gives (Cut text (Sound text at)) (unknown_tag text at)
       gives_unknown =
           gives_bind (λ x n. Cut text (SoundExt text) x n × (ext_tag text at ≡ ok x n)) (Cut text (Sound text at)) _ _ (λ x n e. (gives_ext text at x n e, e)) (λ x n h.
-          gives_done (Cut text (Sound text at)) (unknown x) n ((h.0.0, record { no_head = no-head; no_clip = no-clip; read = (n, h.1) }), h.0.1))
+          gives_done (Cut text (Sound text at)) (unknown x) n ((h.0.0, record { no_head = no_head; no_clip = no_clip; read = (n, h.1) }), h.0.1))
 
     gives_comment_line : Gives (Cut text (Sound text at)) (comment_line text at)
     gives_comment_line = gives_bind (Ends text) (Cut text (Sound text at)) _ _ (gives_comment text at) (λ c n h. gives_done (Cut text (Sound text at)) (comment c) n (tt, h))

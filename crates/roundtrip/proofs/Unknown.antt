@@ -252,7 +252,7 @@ module _ (text : List ℕ) (at : ℕ) (name : Span) (not_map : same_bytes (shown
       let n = shown text name in
       let sh = shape text at (ext name (some r)) u.read.0 u.read.1 in
       let plain = every_of name_byte n (passes_shown name_byte text name h.0) in
-      let twice : (out : List ℕ) → OnLine out 0 (rest_line n (shown text r)) → Twice text at out n (shown text r) = λ out w'. record { plain = plain; not_map = not-map; stood = line_ahead text at name r sh; written = w' } in (
+      let twice : (out : List ℕ) → OnLine out 0 (rest_line n (shown text r)) → Twice text at out n (shown text r) = λ out w'. record { plain = plain; not_map = not_map; stood = line_ahead text at name r sh; written = w' } in (
         some_shown name_byte text name h.0,
         (
           passes_shown name_byte text name h.0,

@@ -1,4 +1,4 @@
--- `read`: the file is refused as it is judged, or the clip is (14), or given. What fits exactly bounds every sum (`exact_size`). Assumes nothing.
+-- `read`: the file is refused as it is judged, or the clip is (14), or given. What fits exactly bounds every sum (`records_within`, `uri_within`). Assumes nothing.
 use native.Mathlib.Omega.{arith}
 use mathlib.Core.Path.{sym, ap}
 use Rattle.cue_file.specs.Format.{version1}

@@ -3,7 +3,7 @@
 use mathlib.Core.Path.{◌≡◌, refl, sym, ◌∙◌, ap}
 use mathlib.Core.Bool.{true}
 use Rattle.tables.specs.Refusal.{given}
-use Rattle.tables.specs.Table.{clips_fit, tags_fit}
+use Rattle.tables.specs.Table.{clips_fit}
 use Rattle.verdict.specs.Answers.{admission}
 use Rattle.tags.specs.Tags.{step}
 use Rattle.media.specs.Answers.{read_seen, parse_answer}

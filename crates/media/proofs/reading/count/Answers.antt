@@ -10,7 +10,6 @@ use Rattle.tags.proofs.Takes.{takes_step}
 use Rattle.assembly.specs.Assembly.{begin, head_next, next, counts_after, head_of}
 use Rattle.assembly.specs.Answers.{head_seen}
 use Rattle.assembly.proofs.Parts.{head_next as head-of-next, counts_next}
-use Rattle.media.specs.declared.reading.CountStep.{CountStep}
 use Rattle.media.specs.declared.reading.CountStep.TheVariants as stepᵛ
 use Rattle.media.specs.Calls as calls
 use Rattle.media.specs.Inside.Passes.{CountSays}

@@ -1,0 +1,10 @@
+-- `range_size`: what stands around it and its value, or nothing. Assumes nothing.
+use native.Mathlib.Omega.{arith}
+use Rattle.measure.proofs.size.range_size.Goals as goal
+
+pub returns-in-Present : goal.returns-in-Present
+returns-in-Present c =
+    record {
+      size = rw c.in-Present.is (omega (arith, c.range_value_size.ensures));
+      most = omega (arith, c.range_value_size.ensures);
+    }

@@ -1,0 +1,23 @@
+-- `range_value_size`: a length, and its offset if it is there. Assumes nothing.
+use native.Mathlib.Omega.{arith}
+use mathlib.Core.List.{◌++◌}
+use lib.ListN.{length-append}
+use Rattle.text.specs.Nom.{bytes}
+use Rattle.digits.specs.Digits.{number_text}
+use Rattle.measure.proofs.size.range_value_size.Goals as goal
+
+pub returns-in-Absent : goal.returns-in-Absent
+returns-in-Absent c =
+    record {
+      size = rw c.in-Absent.is (omega (arith, c.number_size-length.ensures));
+      most = omega (arith, c.number_size-length.ensures);
+    }
+
+pub returns-in-At : goal.returns-in-At
+returns-in-At c =
+    let n = c.args.r.length in
+    let o = c.in-At.o in
+    record {
+      size = rw c.in-At.is (omega (arith, c.number_size-value.ensures, c.number_size-length.ensures, length-append (number_text n) (bytes "@" ++ number_text o)));
+      most = omega (arith, c.number_size-value.ensures, c.number_size-length.ensures);
+    }
