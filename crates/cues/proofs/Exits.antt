@@ -1,15 +1,15 @@
 -- What is said at each exit: 1 by the program's own size, the reader's refusals, and the lines of a file that was taken. Assumes nothing.
 use Prim.Native.Nat.{ℕ, ◌≤◌, ◌<◌}
-use mathlib.Core.Path.{◌≡◌, sym, ap, ◌∙◌}
-use mathlib.Core.List.{List, ◌++◌}
+use mathlib.Core.Path.{◌≡◌}
+use mathlib.Core.List.{List}
 use lib.ListN.{length}
 use borrow.Author.Tests.{le-leb, lt-leb}
 use Rattle.tables.specs.Refusal.{Refusal, refused, given, text_too_long}
 use Rattle.tables.proofs.Refusals.{given_refuses}
 use Rattle.cue_file.specs.Format.{version1}
-use Rattle.cue_file.specs.Read.{Cursor, count_in, cues}
+use Rattle.cue_file.specs.Read.{Cursor, cues}
 use Rattle.cue_file.proofs.Judged.{judged_front, cues_takes}
-use Rattle.cues.specs.Shown.{file_size, header_line, cue_lines, shown_file}
+use Rattle.cues.specs.Shown.{file_size, shown_file}
 use Rattle.cues.specs.Inside.Pass.{pass_text}
 use Rattle.cues.proofs.Pass.{opened_text}
 

@@ -3,14 +3,12 @@ use Prim.Native.Nat.{ℕ, zero, suc, ◌+◌, ◌-◌, ◌≤◌, ◌<◌}
 use mathlib.Core.Path.{◌≡◌, refl, sym, ap, ◌∙◌}
 use mathlib.Core.List.{List, ◌++◌, append-nil, append_assoc}
 use native.Mathlib.Omega.{arith}
-use lib.ListN.{length}
 use Rattle.text.specs.Spans.{shown}
 use Rattle.tables.specs.Refusal.{given}
 use Rattle.cue_file.specs.Format.{version1}
 use Rattle.cue_file.specs.Read.{Cursor, next, count_in, start_in, uri_place, uri_in, cues}
 use Rattle.cue_file.proofs.Judged.{place_step, cues_takes, uri_within}
 use Rattle.cue_file.proofs.Pass.{cursor_at, pass_opens, pass_steps}
-use Rattle.output.specs.Waiting.{part}
 use Rattle.output.proofs.Laws.{part_there}
 use Rattle.cues.specs.Shown.{header_line, cue_line, cue_lines}
 use Rattle.cues.specs.Inside.Pass.{span_line, step_line, step_after, pass_lines, pass_text}

@@ -3,7 +3,7 @@ use Rattle.std.specs.Prelude.{ℕ, ◌≡◌, refl, List, [], ◌∷◌, ◌++�
 use Rattle.text.specs.Nom.{bytes}
 use Rattle.digits.specs.Digits.{digits_by, number_text}
 use Rattle.tables.specs.Table.{every}
-use Rattle.tables.specs.Refusal.{Answer, refused, given, file_too_short, bad_start}
+use Rattle.tables.specs.Refusal.{refused, given, file_too_short, bad_start}
 use Rattle.cue_file.specs.Format.{value_at}
 use Rattle.cue_file.specs.Read.{lengths_in, fits_exactly, start_keeps, judged}
 use Rattle.printing.specs.Lines.{field}

@@ -1,5 +1,5 @@
 // An input that fits into memory, at once.
-ghost use Rattle.std.specs.Prelude.{◌≤◌, length};
+ghost use Rattle.std.specs.Prelude.{◌≡◌, false, ◌≤◌, length, take, IfSome};
 
 use std::io::Read;
 
@@ -12,7 +12,8 @@ pub struct Whole {
 
 // Reads until the text is full, the input ends or a read fails.
 pub fn read_all<R: Read>(from: &mut R, text: &mut [u8]) -> Whole
-    ensures { result.count ≤ length text.new }
+    ensures bound { result.count ≤ length text.new }
+    ensures came { result.failed ≡ false → IfSome (R.remaining from.old) (λ xs. take result.count text.new ≡ take (length text.new) xs) }
 {
     let mut count = 0usize;
     while count < text.len() {

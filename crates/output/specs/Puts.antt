@@ -1,5 +1,6 @@
 -- What a call says that puts bytes: of the bytes that wait, and of failed writes. Assumes nothing.
-use Rattle.std.specs.Prelude.{◌≡◌, true, false, List, [], ℕ, ◌+◌, ◌≤◌, length, take}
+use Rattle.std.specs.Prelude.{◌≡◌, true, false, Option, List, [], ℕ, ◌+◌, ◌≤◌, length, take}
+use Rattle.std.specs.Io.KnownBytes.{Appends, append_known}
 use Rattle.output.specs.declared.Waits as waitsᵈ
 use Rattle.output.specs.Waiting.{room, with_bytes}
 
@@ -16,3 +17,12 @@ pub record Puts (buffer₀ buffer : List ℕ) (s r : waitsᵈ.Waits) (bytes : Li
 pub record PutsFirst (buffer : List ℕ) (r : waitsᵈ.Waits) (bytes : List ℕ) : Type 0 where
   pub waiting : take r.count buffer ≡ with_bytes [] bytes
   pub room_left : length bytes ≤ room → (r.count ≡ length bytes) × (r.failed ≡ false)
+
+-- what the call says of the writer, where it is known what that held before
+pub record Sends (held₀ held : Option (List ℕ)) (buffer₀ buffer : List ℕ) (s r : waitsᵈ.Waits) (bytes : List ℕ) : Type 0 where
+  -- unless a write failed, what it holds and, behind that, what waits grow by the bytes
+  pub grows : r.failed ≡ false → Appends (append_known held₀ (take s.count buffer₀)) (append_known held (take r.count buffer)) bytes
+
+-- the same of a call that puts the first bytes
+pub record SendsFirst (held₀ held : Option (List ℕ)) (buffer : List ℕ) (r : waitsᵈ.Waits) (bytes : List ℕ) : Type 0 where
+  pub grows : r.failed ≡ false → Appends held₀ (append_known held (take r.count buffer)) bytes

@@ -1,12 +1,13 @@
 // Buffered output: a lent buffer, how many of its bytes wait to be written, and whether a write failed. Each call takes that and answers the next one.
-// What waits is fixed byte for byte, and a failure stays. That a full buffer reaches the descriptor, and that a write which fails is told, no contract can say:
-// that shows only in runs.
+// What waits is fixed byte for byte, and a failure stays. What a writer holds grows by what was put, unless a write failed: of a writer that says what it holds.
+// The standard streams don't say it: what reaches them, and that a write which fails is told, shows only in runs.
 #![tactic(auto)]
 
-ghost use Rattle.std.specs.Prelude.{◌≡◌, true, false, [], ◌∷◌, ◌≤◌, ◌<◌, length, set};
+ghost use Rattle.std.specs.Prelude.{◌≡◌, true, false, [], ◌∷◌, ◌≤◌, ◌<◌, length, take, set};
+ghost use Rattle.std.specs.Io.KnownBytes.{Appends};
 ghost use Rattle.digits.specs.Digits.{number_text};
 ghost use Rattle.output.specs.Waiting as rule;
-ghost use Rattle.output.specs.Puts.{Puts};
+ghost use Rattle.output.specs.Puts.{Puts, Sends};
 
 use std::io::Write;
 
@@ -35,7 +36,9 @@ impl Waits {
 }
 
 // The first bytes of the buffer, or all where it has no more. It takes a slice, of which a part can be lent on.
-fn write_front<W: Write>(out: &mut W, buffer: &[u8], count: usize) -> bool {
+fn write_front<W: Write>(out: &mut W, buffer: &[u8], count: usize) -> bool
+    ensures { result ≡ true → Appends (W.contents out.old) (W.contents out.new) (take count buffer.now) }
+{
     if count < buffer.len() {
         return out.write_all(&buffer[0..count]).is_ok();
     }
@@ -44,7 +47,8 @@ fn write_front<W: Write>(out: &mut W, buffer: &[u8], count: usize) -> bool {
 
 // Writes what waits, and answers whether all went: this and what was written before it.
 pub fn flush<W: Write>(out: &mut W, buffer: &[u8; ROOM], waits: Waits) -> bool
-    ensures { waits.failed ≡ true → result ≡ false }
+    ensures stays { waits.failed ≡ true → result ≡ false }
+    ensures sent { result ≡ true → Appends (W.contents out.old) (W.contents out.new) (take waits.count buffer.now) }
 {
     if waits.failed {
         return false;
@@ -54,7 +58,8 @@ pub fn flush<W: Write>(out: &mut W, buffer: &[u8; ROOM], waits: Waits) -> bool
 
 // Writes a full buffer, and answers whether a write failed by now. After one that failed nothing is written: what arrives is a beginning of what was put.
 fn write_full<W: Write>(out: &mut W, buffer: &[u8], failed: bool) -> bool
-    ensures { failed ≡ true → result ≡ true }
+    ensures stays { failed ≡ true → result ≡ true }
+    ensures sent { result ≡ false → Appends (W.contents out.old) (W.contents out.new) buffer.now }
 {
     if failed {
         return true;
@@ -74,6 +79,7 @@ fn store(buffer: &mut [u8], at: usize, byte: u8)
 pub fn put_byte<W: Write>(out: &mut W, buffer: &mut [u8; ROOM], waits: Waits, byte: u8) -> Waits
     ensures fits { result.count ≤ rule.room }
     ensures puts { Puts buffer.old buffer.new waits result (byte ∷ []) }
+    ensures sent { Sends (W.contents out.old) (W.contents out.new) buffer.old buffer.new waits result (byte ∷ []) }
 {
     let at = waits.count;
     if at < ROOM {
@@ -97,6 +103,7 @@ pub fn put_bytes<W: Write>(
 ) -> Waits
     ensures fits { waits.count ≤ rule.room → result.count ≤ rule.room }
     ensures puts { Puts buffer.old buffer.new waits result bytes.now }
+    ensures sent { Sends (W.contents out.old) (W.contents out.new) buffer.old buffer.new waits result bytes.now }
 {
     let mut waits = waits;
     let mut k = 0usize;
@@ -118,6 +125,7 @@ pub fn put_part<W: Write>(
 ) -> Waits
     ensures fits { waits.count ≤ rule.room → result.count ≤ rule.room }
     ensures puts { Puts buffer.old buffer.new waits result (rule.part text.now start end) }
+    ensures sent { Sends (W.contents out.old) (W.contents out.new) buffer.old buffer.new waits result (rule.part text.now start end) }
 {
     if text.len() < end {
         return waits;
@@ -137,6 +145,7 @@ pub fn put_number<W: Write>(
 ) -> Waits
     ensures fits { result.count ≤ rule.room }
     ensures puts { Puts buffer.old buffer.new waits result (number_text number) }
+    ensures sent { Sends (W.contents out.old) (W.contents out.new) buffer.old buffer.new waits result (number_text number) }
 {
     if number < 10 {
         return put_byte(out, buffer, waits, (48 + number) as u8);

@@ -1,8 +1,9 @@
 // Lines that several programs print: numbers by field and by line, and a refusal. Each function takes what waits in the output, and answers what waits after it.
 #![tactic(auto)]
 
-ghost use Rattle.std.specs.Prelude.{◌≡◌, true};
-ghost use Rattle.output.specs.Puts.{Puts, PutsFirst};
+ghost use Rattle.std.specs.Prelude.{◌≡◌, true, false, take};
+ghost use Rattle.std.specs.Io.KnownBytes.{Appends};
+ghost use Rattle.output.specs.Puts.{Puts, PutsFirst, Sends, SendsFirst};
 ghost use Rattle.printing.specs.Lines as rule;
 
 use output::{ROOM, Waits};
@@ -10,7 +11,8 @@ use std::io::Write;
 
 // A number that ends a line.
 pub fn number_line<W: Write>(out: &mut W, to: &mut [u8; ROOM], waits: Waits, number: u64) -> Waits
-    ensures { Puts to.old to.new waits result (rule.number_line number) }
+    ensures puts { Puts to.old to.new waits result (rule.number_line number) }
+    ensures sent { Sends (W.contents out.old) (W.contents out.new) to.old to.new waits result (rule.number_line number) }
 {
     let waits = output::put_number(out, to, waits, number);
     output::put_byte(out, to, waits, b'\n')
@@ -18,7 +20,8 @@ pub fn number_line<W: Write>(out: &mut W, to: &mut [u8; ROOM], waits: Waits, num
 
 // A number that more fields follow.
 pub fn field<W: Write>(out: &mut W, to: &mut [u8; ROOM], waits: Waits, number: u64) -> Waits
-    ensures { Puts to.old to.new waits result (rule.field number) }
+    ensures puts { Puts to.old to.new waits result (rule.field number) }
+    ensures sent { Sends (W.contents out.old) (W.contents out.new) to.old to.new waits result (rule.field number) }
 {
     let waits = output::put_number(out, to, waits, number);
     output::put_byte(out, to, waits, b'\t')
@@ -26,7 +29,8 @@ pub fn field<W: Write>(out: &mut W, to: &mut [u8; ROOM], waits: Waits, number: u
 
 // The only line of a refused input.
 pub fn refused<W: Write>(out: &mut W, to: &mut [u8; ROOM], number: u64, place: usize) -> Waits
-    ensures { PutsFirst to.new result (rule.refused_line number place) }
+    ensures puts { PutsFirst to.new result (rule.refused_line number place) }
+    ensures sent { SendsFirst (W.contents out.old) (W.contents out.new) to.new result (rule.refused_line number place) }
 {
     let waits = output::put_bytes(out, to, Waits::none(), b"refused ");
     let waits = output::put_number(out, to, waits, number);
@@ -43,7 +47,8 @@ pub struct Said {
 
 // A refusal, and nothing for standard output.
 pub fn refusal<E: Write>(err: &mut E, to: &mut [u8; ROOM], number: u64, place: usize) -> Said
-    ensures { (result.refused ≡ true) × PutsFirst to.new result.waits (rule.refused_line number place) }
+    ensures puts { (result.refused ≡ true) × PutsFirst to.new result.waits (rule.refused_line number place) }
+    ensures sent { SendsFirst (E.contents err.old) (E.contents err.new) to.new result.waits (rule.refused_line number place) }
 {
     Said {
         refused: true,
@@ -52,7 +57,13 @@ pub fn refusal<E: Write>(err: &mut E, to: &mut [u8; ROOM], number: u64, place: u
 }
 
 // Writes what waits where it belongs, and answers whether all went.
-pub fn flush<O: Write, E: Write>(out: &mut O, err: &mut E, to: &[u8; ROOM], said: Said) -> bool {
+pub fn flush<O: Write, E: Write>(out: &mut O, err: &mut E, to: &[u8; ROOM], said: Said) -> bool
+    ensures stays { said.waits.failed ≡ true → result ≡ false }
+    ensures on_err { said.refused ≡ true → (out.new ≡ out.old)
+        × (result ≡ true → Appends (E.contents err.old) (E.contents err.new) (take said.waits.count to.now)) }
+    ensures on_out { said.refused ≡ false → (err.new ≡ err.old)
+        × (result ≡ true → Appends (O.contents out.old) (O.contents out.new) (take said.waits.count to.now)) }
+{
     if said.refused {
         return output::flush(err, to, said.waits);
     }

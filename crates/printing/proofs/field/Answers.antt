@@ -1,8 +1,11 @@
 -- `field`: the number's digits, then a tab. Assumes nothing.
-use Rattle.output.proofs.Laws.{puts_then}
+use Rattle.output.proofs.Laws.{puts_then, sends_then}
 use Rattle.printing.specs.Lines.{field}
 use Rattle.printing.proofs.field.Goals as goal
 
 pub returns : goal.returns
 unfolding field
-returns g c = puts_then c.put_number-waits.ensures.puts c.put_byte.ensures.puts
+returns g c = record {
+  puts = puts_then c.put_number-waits.ensures.puts c.put_byte.ensures.puts;
+  sent = sends_then c.put_byte.ensures.puts c.put_number-waits.ensures.sent c.put_byte.ensures.sent;
+}
