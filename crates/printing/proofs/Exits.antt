@@ -3,12 +3,16 @@ use mathlib.Core.Path.{◌≡◌, ap}
 use mathlib.Core.Bool.{Bool, true, false}
 use mathlib.Core.List.{List, []}
 use Prim.Native.Nat.{ℕ}
+use lib.ListN.{take}
 use Rattle.tables.specs.Refusal.{Refusal, Answer, refused, given, number_of}
-use Rattle.output.specs.Puts.{PutsFirst}
-use Rattle.output.proofs.Laws.{first_as}
+use Rattle.std.specs.Prelude.{Option}
+use Rattle.std.specs.Io.KnownBytes.{Appends}
+use Rattle.std.proofs.KnownBytes.{Appends-nil}
+use Rattle.output.specs.Puts.{PutsFirst, SendsFirst}
+use Rattle.output.proofs.Laws.{first_as, sends_first_as, sent}
 use Rattle.printing.specs.declared.Said as saidᵈ
 use Rattle.printing.specs.Lines.{refused_line}
-use Rattle.printing.specs.Said.{SaidAs, SaysAs}
+use Rattle.printing.specs.Said.{SaidAs, SaysAs, SendsAs, Tells}
 
 module _ {to : List ℕ} {s : saidᵈ.Said} {answer : Answer (List ℕ)} where
   pub said_refused : (r : Refusal) (number p : ℕ) → number ≡ number_of r → answer ≡ refused r p → (s.refused ≡ true) × PutsFirst to s.waits (refused_line number p) → SaidAs to s answer
@@ -24,3 +28,24 @@ module _ {to : List ℕ} {s : saidᵈ.Said} {answer : Answer (List ℕ)} where
 
     pub says_said : failed ≡ false → SaidAs to s answer → SaysAs failed to s answer
     says_said e h = record { belongs = rw e h.belongs; puts = rw e h.puts }
+
+-- ---- what goes to which of the two writers
+module _ {out₀ out err₀ err : Option (List ℕ)} {to : List ℕ} {s : saidᵈ.Said} {answer : Answer (List ℕ)} where
+  pub sends_refused : (r : Refusal) (number p : ℕ) → number ≡ number_of r → answer ≡ refused r p → out ≡ out₀ → SendsFirst err₀ err to s.waits (refused_line number p) → SendsAs out₀ out err₀ err to s answer
+  sends_refused r number p n e k h = record { one = rw e (k, sends_first_as (ap (λ (m : ℕ). refused_line m p) n) h) }
+
+  pub sends_given : (bytes : List ℕ) → answer ≡ given bytes → SendsFirst out₀ out to s.waits bytes → err ≡ err₀ → SendsAs out₀ out err₀ err to s answer
+  sends_given bytes e h k = record { one = rw e (h, k) }
+
+-- and a flush that went
+module _ (out₀ out₁ out₂ err₀ err₁ err₂ : Option (List ℕ)) (to : List ℕ) (s : saidᵈ.Said) where
+  pub told : (answer : Answer (List ℕ)) → SaidAs to s answer → SendsAs out₀ out₁ err₀ err₁ to s answer → s.waits.failed ≡ false
+      → (s.refused ≡ true → (out₂ ≡ out₁) × Appends err₁ err₂ (take s.waits.count to))
+      → (s.refused ≡ false → (err₂ ≡ err₁) × Appends out₁ out₂ (take s.waits.count to))
+      → Tells out₀ out₂ err₀ err₂ answer
+  told (refused r p) said goes n e o =
+      let f = e said.belongs in
+      record { on_out = rw (f.0, goes.one.0) (Appends-nil out₀); on_err = sent err₂ goes.one.1 n f.1 }
+  told (given bytes) said goes n e o =
+      let f = o said.belongs in
+      record { on_out = sent out₂ goes.one.0 n f.1; on_err = rw (f.0, goes.one.1) (Appends-nil err₀) }
