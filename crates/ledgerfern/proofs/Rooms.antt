@@ -1,6 +1,6 @@
 -- What `ledgerfern_room` says is what `ledgerfern_read` needs, in the face's numbers: q of the one and r of the other, with tables of any size, for one text.
 -- Rests on the same of the library's calls (`media`, `Rooms`). Assumes nothing.
-use mathlib.Core.Path.{◌≡◌, refl, sym, ◌∙◌, ap}
+use mathlib.Core.Path.{◌≡◌, refl, ◌∙◌, ap}
 use mathlib.Core.List.{List}
 use Prim.Native.Nat.{ℕ, ◌*◌, ◌≤◌, ◌<◌}
 use native.Mathlib.Omega.{arith}

@@ -2,10 +2,10 @@
 -- "A refusal returns its number, a place, and zeros for all else." Assumes nothing.
 use Rattle.std.specs.Prelude.{ℕ, ◌≡◌, Bool, true, false, List, length}
 use Rattle.std.proofs.Math.Option.{Option, none, some}
-use Rattle.text.specs.Nom.{Span, span}
+use Rattle.text.specs.Nom.{span}
 use Rattle.text.specs.BasicTags.{PlaylistType, event, vod, other}
 use Rattle.tables.specs.Refusal.{Answer, refused, given, laid, answer_number, answer_place}
-use Rattle.assembly.specs.Assembly.{Head, head, empty_head}
+use Rattle.assembly.specs.Assembly.{Head, empty_head}
 use Rattle.assembly.specs.Words.{clips_words, tags_words}
 use Rattle.media.specs.Calls.{Read, read, Room, room, parse_media_playlist, clips_read, tags_read}
 use Rattle.starts.specs.Table.{start_records, all_starts}

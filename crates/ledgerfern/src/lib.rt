@@ -252,36 +252,21 @@ pub fn ledgerfern_clip_at(clip_count: usize, clips: &[u64], rate: u64, tick: u64
 }
 
 // The same, with the ticks since its start and those left until the next.
-pub fn ledgerfern_playing_at(
-    clip_count: usize,
-    clips: &[u64],
-    rate: u64,
-    tick: u64,
-) -> Playing
+pub fn ledgerfern_playing_at(clip_count: usize, clips: &[u64], rate: u64, tick: u64) -> Playing
     ensures { result ≡ playing_numbers (playing.playing_at clips.now clip_count rate tick) }
 {
     numbers::of_playing(playing::playing_at(clips, clip_count, rate, tick))
 }
 
 // The byte window of a clip.
-pub fn ledgerfern_window(
-    text: &[u8],
-    clip_count: usize,
-    clips: &[u64],
-    clip: usize,
-) -> Window
+pub fn ledgerfern_window(text: &[u8], clip_count: usize, clips: &[u64], clip: usize) -> Window
     ensures { result ≡ window_numbers (window.window text.now clips.now clip_count clip) }
 {
     numbers::of_window(window::window(text, clips, clip_count, clip))
 }
 
 // The windows of all clips into the lent table, four words a clip: what the call for that clip gives, without the place. A refused call leaves it as it was.
-pub fn ledgerfern_windows(
-    text: &[u8],
-    clip_count: usize,
-    clips: &[u64],
-    out: &mut [u64],
-) -> Windows
+pub fn ledgerfern_windows(text: &[u8], clip_count: usize, clips: &[u64], out: &mut [u64]) -> Windows
     ensures { WindowsAs text.now clips.now clip_count out.old out.new result }
 {
     numbers::of_windows(windows::table::all_windows(text, clips, clip_count, out))

@@ -12,7 +12,9 @@ ghost use Rattle.cue_file.specs.Read.{cue_read};
 ghost use Rattle.ledgerfern.specs.Numbers.{verdict_numbers, room_numbers, value_numbers, window_numbers, on_numbers, playing_numbers, cue_numbers, ReadAs, StartsAs, WindowsAs, CueWriteAs};
 ghost use Rattle.ledgerfern.specs.Write.{WriteAs};
 
-use ledgerfern::{Cue, Head, On, Playing, Read, Room, Starts, Value, Verdict, Window, Windows, Written};
+use ledgerfern::{
+    Cue, Head, On, Playing, Read, Room, Starts, Value, Verdict, Window, Windows, Written,
+};
 
 // Whether a text is a master playlist.
 #[unsafe(no_mangle)]

@@ -15,7 +15,7 @@ use Rattle.lengths.specs.Duration.{ns, extinf}
 use Rattle.lengths.specs.Duration as lengths
 use Rattle.tables.specs.Refusal.{Refusal, left_out_tag, too_many_digits}
 use Rattle.tags.specs.Tags.{HeadTag, version, target_duration, media_sequence, discontinuity_sequence, typed, i_frames_only, independent_segments, end_list, ClipTag, timed, ranged, discontinuity, mapped, Tag, of_head, of_clip, unknown, comment, uri, left_out, Taken, took}
-use Rattle.assembly.specs.Assembly.{Head, head, head_next, Segment, segment_next, State, begin, next, clip_in, tag_in, last_of, clips_of, tags_of, head_of, clip_count, kept_tags}
+use Rattle.assembly.specs.Assembly.{Head, head_next, Segment, segment_next, State, begin, next, clip_in, tag_in, last_of, clips_of, tags_of, head_of, clip_count, kept_tags}
 use Rattle.assembly.proofs.Counts.{met_tags, next_tags, count_clips}
 use Rattle.text.specs.Spans.{shown_part}
 use Rattle.records.specs.Same.{ShownType, ShownHead, head_shown, shown_head, ShownTag, tag_shown, shown_tag, ShownMap, map_shown, shown_map, ShownClip, clip_shown, shown_clip}

@@ -81,9 +81,9 @@ in_numbers text clips tags r out s clips₁ tags₁ clips' tags' r' h e p b =
       tag_count = g.tags_are;
       stop_place = g.stop_is;
       head = h;
-      head_of = e;
+      head_of_lem = e;
       head' = b.head;
-      head-of' = g.head_is;
+      head_of' = g.head_is;
       agree = b.agree;
     }
 

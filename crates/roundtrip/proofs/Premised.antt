@@ -4,7 +4,7 @@ use mathlib.Core.Path.{◌≡◌}
 use mathlib.Core.Bool.{Bool, true, not}
 use mathlib.Core.List.{List, [], ◌∷◌}
 use mathlib.Core.Option.{Option, none, some}
-use lib.ListN.{length, drop}
+use lib.ListN.{drop}
 use borrow.Author.Tests.{not-true}
 use Rattle.text.specs.Nom.{Span, bytes, is_none_of, begins}
 use Rattle.text.specs.BasicTags.{ExtTag, PlaylistType, event, vod, other}

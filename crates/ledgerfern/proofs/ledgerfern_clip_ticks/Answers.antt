@@ -1,0 +1,7 @@
+-- `ledgerfern_clip_ticks`: the numbers of what the library's call ensures. Assumes nothing.
+use mathlib.Core.Path.{◌∙◌, ap}
+use Rattle.ledgerfern.specs.Numbers.{value_numbers}
+use Rattle.ledgerfern.proofs.ledgerfern_clip_ticks.Goals as goal
+
+pub returns : goal.returns
+returns c = c.of_value.ensures ∙ ap value_numbers c.clip_ticks.ensures

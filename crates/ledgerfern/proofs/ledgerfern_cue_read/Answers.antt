@@ -1,0 +1,7 @@
+-- `ledgerfern_cue_read`: the numbers of what the library's call ensures. Assumes nothing.
+use mathlib.Core.Path.{◌∙◌, ap}
+use Rattle.ledgerfern.specs.Numbers.{cue_numbers}
+use Rattle.ledgerfern.proofs.ledgerfern_cue_read.Goals as goal
+
+pub returns : goal.returns
+returns c = c.of_cue.ensures ∙ ap cue_numbers c.read.ensures
