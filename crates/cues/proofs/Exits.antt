@@ -1,14 +1,13 @@
 -- What is said at each exit: 1 by the program's own size, the reader's refusals, and the lines of a file that was taken. Assumes nothing.
 use Prim.Native.Nat.{ℕ, ◌≤◌, ◌<◌}
 use mathlib.Core.Path.{◌≡◌, refl, sym, ap, ◌∙◌}
-use mathlib.Core.Bool.{Bool, true, false, not, false≢true}
+use mathlib.Core.Bool.{Bool, true, false}
 use mathlib.Core.List.{List}
 use native.Mathlib.Omega.{arith}
 use lib.Dec.{leb}
 use lib.ListN.{length, take}
 use lib.Seq.{take_all}
 use Rattle.std.proofs.Common.{length-take-le}
-use Rattle.std.specs.Prelude.{Option, None, Some, IfSome}
 use borrow.Author.Tests.{le-leb, lt-leb, leb-true, leb-false}
 use Rattle.tables.specs.Refusal.{Refusal, refused, given, text_too_long}
 use Rattle.tables.proofs.Refusals.{given_refuses}
@@ -44,11 +43,3 @@ module _ (file : List ℕ) where
           let long : file_size < length file = leb-false (length file) file_size e in
           let front : length (take 393217 file) ≡ 393217 = length-take-le 393217 file (omega (arith, long)) in
           too_long (take 393217 file) (omega (arith, front)) ∙ sym (too_long file long)
-
-pub if_some : (o : Option (List ℕ)) (P Q : List ℕ → Type 0) → ((x : List ℕ) → P x → Q x) → IfSome o P → IfSome o Q
-if_some None P Q f p = tt
-if_some (Some x) P Q f p = f x p
-
-pub not_so : (b : Bool) → not b ≡ true → b ≡ false
-not_so true e = absurd (false≢true e)
-not_so false e = refl

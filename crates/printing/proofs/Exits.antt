@@ -1,11 +1,11 @@
 -- What is said at a program's exits: a refusal, bytes, and nothing where the input failed to come. Assumes nothing.
 use mathlib.Core.Path.{◌≡◌, refl, sym, ap, ◌∙◌}
-use mathlib.Core.Bool.{Bool, true, false, false≢true}
+use mathlib.Core.Bool.{Bool, true, false, not, false≢true}
 use mathlib.Core.List.{List, []}
 use Prim.Native.Nat.{ℕ}
 use lib.ListN.{take}
 use Rattle.tables.specs.Refusal.{Refusal, Answer, refused, given, number_of}
-use Rattle.std.specs.Prelude.{Option}
+use Rattle.std.specs.Prelude.{Option, None, Some, IfSome}
 use Rattle.std.specs.Io.KnownBytes.{Appends}
 use Rattle.std.proofs.KnownBytes.{Appends-nil}
 use Rattle.output.specs.Puts.{PutsFirst, SendsFirst}
@@ -57,3 +57,12 @@ module _ (out₀ out₁ out₂ err₀ err₁ err₂ : Option (List ℕ)) (to : L
   told (given bytes) said goes n e o h =
       let f = o said.belongs in
       record { on_out = sent out₂ goes.one.0 (not_failed _ _ n h) (f.1 h); on_err = rw (f.0, goes.one.1) (Appends-nil err₀) }
+
+-- ---- what came of a reader that is known
+pub if_some : (o : Option (List ℕ)) (P Q : List ℕ → Type 0) → ((x : List ℕ) → P x → Q x) → IfSome o P → IfSome o Q
+if_some None P Q f p = tt
+if_some (Some x) P Q f p = f x p
+
+pub not_so : (b : Bool) → not b ≡ true → b ≡ false
+not_so true e = absurd (false≢true e)
+not_so false e = refl

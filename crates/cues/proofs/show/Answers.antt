@@ -1,9 +1,9 @@
 -- `show`: what came is a front of what the reader had, long enough to show the same, and a flush that went told it. Assumes nothing.
 use Rattle.std.proofs.Common.{◌≡◌, ℕ, List, length, take, ap, ◌∙◌, rules}
 use Rattle.printing.specs.Said.{Tells}
-use Rattle.printing.proofs.Exits.{said_came, told}
+use Rattle.printing.proofs.Exits.{said_came, told, if_some, not_so}
 use Rattle.cues.specs.Shown.{shown_file}
-use Rattle.cues.proofs.Exits.{front_shows, if_some, not_so}
+use Rattle.cues.proofs.Exits.{front_shows}
 use Rattle.cues.proofs.show.Goals as goal
 
 pub returns-then-not-ran : goal.returns-then-not-ran
