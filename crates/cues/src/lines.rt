@@ -1,7 +1,7 @@
 // What is printed. Each function takes what waits in the output, and answers what waits after it; `cues` prints the whole.
 ghost use Rattle.std.specs.Prelude.{◌≡◌, false};
 ghost use Rattle.text.specs.Answers.{span_of};
-ghost use Rattle.output.specs.Puts.{Puts, PutsFirst};
+ghost use Rattle.output.specs.Puts.{Puts, PutsFirst, Sends, SendsFirst};
 ghost use Rattle.cue_file.specs.Format.{version1};
 ghost use Rattle.cue_file.specs.Read.{next};
 ghost use Rattle.cue_reader.specs.Answers.{cursor_of};
@@ -14,7 +14,8 @@ use std::io::Write;
 
 // Number and start as the cursor has them; the URI's bytes as they stand in the file.
 fn cue<O: Write>(stdout: &mut O, to: &mut [u8; ROOM], waits: Waits, file: &[u8], cue: Cue) -> Waits
-    ensures { Puts to.old to.new waits result (inside.span_line file.now cue.clip cue.start (span_of cue.uri)) }
+    ensures puts { Puts to.old to.new waits result (inside.span_line file.now cue.clip cue.start (span_of cue.uri)) }
+    ensures sent { Sends (O.contents stdout.old) (O.contents stdout.new) to.old to.new waits result (inside.span_line file.now cue.clip cue.start (span_of cue.uri)) }
 {
     let uri = cue.uri;
     let waits = printing::field(stdout, to, waits, cue.clip as u64);
@@ -34,6 +35,7 @@ struct Pass {
 fn next_cue<O: Write>(stdout: &mut O, to: &mut [u8; ROOM], s: Pass, file: &[u8]) -> Pass
     ensures moved { cursor_of result.cues ≡ inside.step_after (cursor_of s.cues) (next version1 file.now (cursor_of s.cues)) }
     ensures puts { Puts to.old to.new s.waits result.waits (inside.step_line file.now (next version1 file.now (cursor_of s.cues))) }
+    ensures sent { Sends (O.contents stdout.old) (O.contents stdout.new) to.old to.new s.waits result.waits (inside.step_line file.now (next version1 file.now (cursor_of s.cues))) }
 {
     let cues = s.cues;
     let waits = s.waits;
@@ -54,7 +56,8 @@ fn each<O: Write>(
     file: &[u8],
     cues: Cues,
 ) -> Waits
-    ensures { Puts to.old to.new waits result (inside.pass_lines file.now (cursor_of cues) cues.clips) }
+    ensures puts { Puts to.old to.new waits result (inside.pass_lines file.now (cursor_of cues) cues.clips) }
+    ensures sent { Sends (O.contents stdout.old) (O.contents stdout.new) to.old to.new waits result (inside.pass_lines file.now (cursor_of cues) cues.clips) }
 {
     let clips = cues.clips;
     let mut s = Pass { cues, waits };
@@ -67,7 +70,8 @@ fn each<O: Write>(
 }
 
 pub fn cues<O: Write>(stdout: &mut O, to: &mut [u8; ROOM], file: &[u8], cues: Cues) -> Said
-    ensures { (result.refused ≡ false) × PutsFirst to.new result.waits (inside.pass_text file.now (cursor_of cues)) }
+    ensures puts { (result.refused ≡ false) × PutsFirst to.new result.waits (inside.pass_text file.now (cursor_of cues)) }
+    ensures sent { SendsFirst (O.contents stdout.old) (O.contents stdout.new) to.new result.waits (inside.pass_text file.now (cursor_of cues)) }
 {
     let header = b"clip\tstart\turi\n";
     let waits = output::put_bytes(stdout, to, Waits::none(), header);

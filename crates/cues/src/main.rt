@@ -2,9 +2,8 @@
 // A refusal is one line on standard error, and nothing on standard output.
 #![tactic(auto)]
 
-ghost use Rattle.std.specs.Prelude.{take};
-ghost use Rattle.input.specs.declared.whole.Whole as wholeᵈ;
-ghost use Rattle.printing.specs.Said.{SaidAs, SaysAs};
+ghost use Rattle.std.specs.Prelude.{◌≡◌, true, false, length, take, IfSome};
+ghost use Rattle.printing.specs.Said.{SaidAs, SaysAs, SendsAs, Tells};
 ghost use Rattle.cues.specs.Shown as rule;
 
 use cue_reader::all::{Cues, Opened};
@@ -30,7 +29,8 @@ fn show_file<O: Write, E: Write>(
     to: &mut [u8; output::ROOM],
     file: &[u8],
 ) -> Said
-    ensures { SaidAs to.new result (rule.shown_file file.now) }
+    ensures says { SaidAs to.new result (rule.shown_file file.now) }
+    ensures sent { SendsAs (O.contents stdout.old) (O.contents stdout.new) (E.contents stderr.old) (E.contents stderr.new) to.new result (rule.shown_file file.now) }
 {
     if FILE_SIZE < file.len() {
         let too_long = Refusal::TextTooLong;
@@ -50,7 +50,8 @@ fn show_input<O: Write, E: Write>(
     file: &[u8],
     input: Whole,
 ) -> Said
-    ensures { SaysAs input.failed to.new result (rule.shown_file (take input.count file.now)) }
+    ensures says { SaysAs input.failed to.new result (rule.shown_file (take input.count file.now)) }
+    ensures sent { input.failed ≡ false → SendsAs (O.contents stdout.old) (O.contents stdout.new) (E.contents stderr.old) (E.contents stderr.new) to.new result (rule.shown_file (take input.count file.now)) }
 {
     let count = input.count;
     if input.failed {
@@ -65,18 +66,43 @@ fn show_input<O: Write, E: Write>(
     show_file(stdout, stderr, to, &file[0..count])
 }
 
-// What comes is the operating system's to say. The promise: there is an input of which this is said.
+// What came, and what is said of it.
+#[derive(Clone, Copy)]
+struct Ran {
+    input: Whole,
+    said: Said,
+}
+
+// What comes is the reader's to say.
 fn run<I: Read, O: Write, E: Write>(
     stdin: &mut I,
     stdout: &mut O,
     stderr: &mut E,
     to: &mut [u8; output::ROOM],
     file: &mut [u8],
-) -> Said
-    ensures { (input : wholeᵈ.Whole) × SaysAs input.failed to.new result (rule.shown_file (take input.count file.new)) }
+) -> Ran
+    ensures came { result.input.failed ≡ false → IfSome (I.remaining stdin.old) (λ bytes. take result.input.count file.new ≡ take (length file.new) bytes) }
+    ensures says { SaysAs result.input.failed to.new result.said (rule.shown_file (take result.input.count file.new)) }
+    ensures sent { result.input.failed ≡ false → SendsAs (O.contents stdout.old) (O.contents stdout.new) (E.contents stderr.old) (E.contents stderr.new) to.new result.said (rule.shown_file (take result.input.count file.new)) }
 {
     let input = whole::read_all(stdin, file);
-    show_input(stdout, stderr, to, file, input)
+    let said = show_input(stdout, stderr, to, file, input);
+    Ran { input, said }
+}
+
+// The whole program. It answers whether all was read and written: then the file that came is shown, or why it is refused.
+fn show<I: Read, O: Write, E: Write>(
+    stdin: &mut I,
+    stdout: &mut O,
+    stderr: &mut E,
+    to: &mut [u8; output::ROOM],
+    file: &mut [u8; FILE_ROOM],
+) -> bool
+    ensures { result ≡ true → IfSome (I.remaining stdin.old) (λ bytes. Tells (O.contents stdout.old) (O.contents stdout.new) (E.contents stderr.old) (E.contents stderr.new) (rule.shown_file bytes)) }
+{
+    let ran = run(stdin, stdout, stderr, to, file);
+    let went = printing::flush(stdout, stderr, to, ran.said);
+    !ran.input.failed && went
 }
 
 fn main(rt: HostRuntime) {
@@ -85,8 +111,9 @@ fn main(rt: HostRuntime) {
     let mut stderr = output::watched::Watched::new(rt.stderr());
     let mut to = [0u8; output::ROOM];
     let mut file = [0u8; FILE_ROOM];
-    let said = run(&mut stdin, &mut stdout, &mut stderr, &mut to, &mut file);
-    printing::flush(&mut stdout, &mut stderr, &to, said);
+    if show(&mut stdin, &mut stdout, &mut stderr, &mut to, &mut file) {
+        return;
+    }
     if let Some(e) = stdin.error {
         let _ = eprintln!(rt; "cues: read: {e}");
     }

@@ -134,6 +134,9 @@ sends_first {held₀} {held} {buffer₀} {buffer} {bytes} {s} {r} e p = record {
   grows = λ h. nothing_waits held₀ (append_known held (take r.count buffer)) bytes (rw (e.0) at (p.grows h));
 }
 
+pub sends_first_none : (held : Option (List ℕ)) (buffer : List ℕ) (r : Waits) → r.count ≡ 0 → SendsFirst held held buffer r []
+sends_first_none held buffer r e = record { grows = λ h. nothing_waits held (append_known held (take r.count buffer)) [] (rw e (appends_none (append_known held []))) }
+
 pub sends_first_as : {held₀ held : Option (List ℕ)} {buffer xs ys : List ℕ} {r : Waits} → xs ≡ ys → SendsFirst held₀ held buffer r xs → SendsFirst held₀ held buffer r ys
 sends_first_as e p = rw e at p
 

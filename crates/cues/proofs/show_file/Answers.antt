@@ -1,24 +1,31 @@
 -- `show_file`: each exit by what is said there (`Exits`). Assumes nothing.
-use mathlib.Core.Path.{sym, ap, ◌∙◌}
+use mathlib.Core.Path.{refl, sym, ap, ◌∙◌}
 use borrow.Author.Rules.{rules}
 use Rattle.cue_reader.specs.Answers.{opened_of}
-use Rattle.printing.proofs.Exits.{said_refused, said_given}
+use Rattle.printing.proofs.Exits.{said_refused, said_given, sends_refused, sends_given}
 use Rattle.cues.proofs.Exits.{too_long, not_taken, was_taken}
 use Rattle.cues.proofs.show_file.Goals as goal
 
 pub returns-then-file-gt-FILE_SIZE : goal.returns-then-file-gt-FILE_SIZE
 returns-then-file-gt-FILE_SIZE g c =
-    let a = c.args in
-    said_refused _ _ 0 c.number.ensures (too_long a.file.now (search rules)) c.refusal.ensures.puts
+    let why = too_long c.args.file.now (search rules) in
+    record {
+      says = said_refused _ _ 0 c.number.ensures why c.refusal.ensures.puts;
+      sent = sends_refused _ _ 0 c.number.ensures why refl c.refusal.ensures.sent;
+    }
 
 pub returns-in-Refused : goal.returns-in-Refused
 returns-in-Refused g c =
-    let a = c.args in
-    let e = sym c.new.ensures ∙ ap opened_of c.in-Refused.is in
-    said_refused _ _ 0 c.number-in-Refused.ensures (not_taken a.file.now (search rules) _ 0 e) c.refusal-in-Refused.ensures.puts
+    let why = not_taken c.args.file.now (search rules) _ 0 (sym c.new.ensures ∙ ap opened_of c.in-Refused.is) in
+    record {
+      says = said_refused _ _ 0 c.number-in-Refused.ensures why c.refusal-in-Refused.ensures.puts;
+      sent = sends_refused _ _ 0 c.number-in-Refused.ensures why refl c.refusal-in-Refused.ensures.sent;
+    }
 
 pub returns-in-Given : goal.returns-in-Given
 returns-in-Given g c =
-    let a = c.args in
-    let e = sym c.new.ensures ∙ ap opened_of c.in-Given.is in
-    said_given _ (was_taken a.file.now (search rules) _ e) c.cues.ensures
+    let what = was_taken c.args.file.now (search rules) _ (sym c.new.ensures ∙ ap opened_of c.in-Given.is) in
+    record {
+      says = said_given _ what c.cues.ensures.puts;
+      sent = sends_given _ what c.cues.ensures.sent refl;
+    }

@@ -1,6 +1,7 @@
 -- `show_input`: nothing where the read failed, else what came. Assumes nothing.
 use Prim.Native.Nat.{◌-◌}
-use mathlib.Core.Path.{◌≡◌, refl}
+use mathlib.Core.Path.{◌≡◌, refl, sym, ◌∙◌}
+use mathlib.Core.Bool.{false≢true}
 use native.Mathlib.Omega.{arith}
 use lib.Seq.{take_all}
 use borrow.Author.Rules.{rules}
@@ -9,16 +10,25 @@ use Rattle.printing.proofs.Exits.{says_nothing, says_said}
 use Rattle.cues.proofs.show_input.Goals as goal
 
 pub returns-then-input : goal.returns-then-input
-returns-then-input g c = says_nothing c.if-input.true refl (first_none _ _ c.none.ensures)
+returns-then-input g c = record {
+  says = says_nothing c.if-input.true refl (first_none _ _ c.none.ensures);
+  sent = λ h. absurd (false≢true (sym h ∙ c.if-input.true));
+}
 
 pub returns-then-file-count : goal.returns-then-file-count
 returns-then-file-count g c =
     let a = c.args in
     let all = take_all a.input.count a.file.now (search rules) in
-    rw all (says_said c.if-input.false c.show_file.ensures)
+    record {
+      says = rw all (says_said c.if-input.false c.show_file.ensures.says);
+      sent = λ h. rw all c.show_file.ensures.sent;
+    }
 
 pub returns : goal.returns
 returns g c =
     let a = c.args in
     let e : a.input.count - 0 ≡ a.input.count = omega arith in
-    says_said c.if-input.false (rw e at c.show_file-2.ensures)
+    record {
+      says = says_said c.if-input.false (rw e at c.show_file-2.ensures.says);
+      sent = λ h. rw e at c.show_file-2.ensures.sent;
+    }

@@ -2,7 +2,7 @@ use Prim.Native.Nat.{ℕ, ◌-◌, ◌≤◌}
 use mathlib.Core.Path.{◌≡◌}
 use mathlib.Core.List.{List, ◌++◌}
 use Rattle.cue_reader.specs.Answers.{cursor_of}
-use Rattle.output.specs.Puts.{Puts}
+use Rattle.output.specs.Puts.{Puts, Sends}
 use Rattle.cues.specs.Inside.Pass.{pass_lines}
 use Rattle.cues.proofs.lines.each.Given as goal
 
@@ -11,6 +11,7 @@ invariant-loop-k g l =
     (l.k ≤ l.clips)
     × ((put : List ℕ)
     × (Puts l.initial.to l.to l.initial.s.waits l.s.waits put
+    × Sends (g.O.Write.contents l.initial.stdout) (g.O.Write.contents l.stdout) l.initial.to l.to l.initial.s.waits l.s.waits put
     × (put ++ pass_lines l.file (cursor_of l.s.cues) (l.clips - l.k) ≡ pass_lines l.file (cursor_of l.initial.s.cues) l.clips)))
 
 abbrev pub decreases-loop-k : goal.decreases-loop-k

@@ -8,7 +8,7 @@ use Rattle.cue_reader.specs.declared.all.Cue as cueᵈ
 use Rattle.cue_reader.specs.declared.all.Cues as cuesᵈ
 use Rattle.cue_reader.specs.declared.all.Step as stepᵈ
 use Rattle.cue_reader.specs.declared.all.Step.TheVariants as stepᵛ
-use Rattle.output.proofs.Laws.{puts_none, puts_as}
+use Rattle.output.proofs.Laws.{puts_none, puts_as, sends_none, sends_as}
 use Rattle.cues.specs.Inside.Pass.{step_line, step_after}
 use Rattle.cues.proofs.lines.next_cue.Goals as goal
 
@@ -22,7 +22,8 @@ returns-in-Clip g c =
     let e = sym (ap step_of c.in-Clip.is) ∙ c.next.ensures in
     record {
       moved = ap (step_after _) e;
-      puts = puts_as (ap (step_line _) e) c.cue.ensures;
+      puts = puts_as (ap (step_line _) e) c.cue.ensures.puts;
+      sent = sends_as (ap (step_line _) e) c.cue.ensures.sent;
     }
 
 pub returns-in_default : goal.returns-in_default
@@ -32,4 +33,5 @@ returns-in_default g c =
     record {
       moved = none.0 ∙ ap (step_after _) c.next.ensures;
       puts = puts_as (none.1 ∙ ap (step_line _) c.next.ensures) (puts_none _ _);
+      sent = sends_as (none.1 ∙ ap (step_line _) c.next.ensures) (sends_none _ _ _);
     }
