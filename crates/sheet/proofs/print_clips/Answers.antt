@@ -1,0 +1,25 @@
+-- `print_clips`: the refusal of the cursor, or the lines of its pass. Assumes nothing.
+use Prim.Native.Nat.{ℕ}
+use mathlib.Core.Path.{sym, ap, ◌∙◌}
+use Rattle.tables.specs.Refusal.{Answer}
+use Rattle.starts.specs.Answers.{opened_of}
+use Rattle.starts.specs.Starts.{Cursor}
+use Rattle.output.proofs.Laws.{first_as}
+use Rattle.printing.specs.Lines.{refused_line}
+use Rattle.printing.specs.Said.{printed}
+use Rattle.sheet.specs.Inside.Pass.{opened_sheet, words_sheet}
+use Rattle.sheet.proofs.print_clips.Goals as goal
+
+pub returns-in-Refused : goal.returns-in-Refused
+unfolding words_sheet
+returns-in-Refused c =
+    let a = c.args in
+    let e = sym (ap opened_of c.in-Refused.is) ∙ c.new.ensures in
+    first_as (ap (λ (n : ℕ). refused_line n 0) c.number.ensures ∙ ap (λ (x : Answer Cursor). printed (opened_sheet a.text.now a.words.now x)) e) c.refused.ensures
+
+pub returns-in-Given : goal.returns-in-Given
+unfolding words_sheet
+returns-in-Given c =
+    let a = c.args in
+    let e = sym (ap opened_of c.in-Given.is) ∙ c.new.ensures in
+    first_as (ap (λ (x : Answer Cursor). printed (opened_sheet a.text.now a.words.now x)) e) c.sheet.ensures

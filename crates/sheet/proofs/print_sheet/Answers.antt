@@ -1,0 +1,33 @@
+-- `print_sheet`: each exit by what is printed there (`Exits`). Assumes nothing.
+use Prim.Native.Nat.{ℕ}
+use mathlib.Core.Path.{◌≡◌, sym, ap, ◌∙◌}
+use lib.ListN.{length}
+use borrow.Author.Rules.{rules}
+use Rattle.media.specs.Answers.{parse_answer}
+use Rattle.output.proofs.Laws.{first_as}
+use Rattle.printing.specs.Lines.{refused_line}
+use Rattle.sheet.specs.Sheet.{clip_room, tag_room}
+use Rattle.sheet.proofs.Exits.{too_long, not_read, was_read}
+use Rattle.sheet.proofs.print_sheet.Goals as goal
+
+pub returns-then-text-gt-TEXT_SIZE : goal.returns-then-text-gt-TEXT_SIZE
+returns-then-text-gt-TEXT_SIZE c =
+    let a = c.args in
+    first_as (ap (λ (n : ℕ). refused_line n 0) c.number.ensures ∙ too_long a.text.now (search rules)) c.refused.ensures
+
+pub returns-in-Refused : goal.returns-in-Refused
+returns-in-Refused c =
+    let a = c.args in
+    let l : length a.clips.now ≡ clip_room = search rules in
+    let m : length a.tags.now ≡ tag_room = search rules in
+    let e = sym c.parse_media_playlist.ensures.answered ∙ ap parse_answer c.in-Refused.is in
+    first_as (ap (λ (n : ℕ). refused_line n c.in-Refused.place) c.number-in-Refused.ensures ∙ not_read a.text.now (search rules) _ _ (rw (l, m) at e)) c.refused-in-Refused.ensures
+
+pub returns-in-Given : goal.returns-in-Given
+returns-in-Given c =
+    let a = c.args in
+    let l : length a.clips.now ≡ clip_room = search rules in
+    let m : length a.tags.now ≡ tag_room = search rules in
+    let e = sym c.parse_media_playlist.ensures.answered ∙ ap parse_answer c.in-Given.is in
+    let w = c.parse_media_playlist.ensures.clips_after in
+    first_as (was_read a.text.now (search rules) c.in-Given.read (rw (l, m) at e) _ _ (rw (l, m) at w)) c.print_clips.ensures
