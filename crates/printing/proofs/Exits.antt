@@ -41,7 +41,7 @@ module _ {out₀ out err₀ err : Option (List ℕ)} {to : List ℕ} {s : said�
   sends_given bytes e h k = record { one = rw e (h, k) }
 
 -- ---- and a flush that went
-not_failed : (failed went : Bool) → (failed ≡ true → went ≡ false) → went ≡ true → failed ≡ false
+pub not_failed : (failed went : Bool) → (failed ≡ true → went ≡ false) → went ≡ true → failed ≡ false
 not_failed true went f e = absurd (false≢true (sym (f refl) ∙ e))
 not_failed false went f e = refl
 

@@ -1,11 +1,15 @@
 -- What is printed at each exit: 1 by the program's own size, the reader's refusals, and the sheet of what was read. Rests on the reader's guarantees.
 -- Assumes nothing.
 use Prim.Native.Nat.{ℕ, ◌≤◌, ◌<◌}
-use mathlib.Core.Path.{◌≡◌}
+use mathlib.Core.Path.{◌≡◌, refl, sym, ap, ◌∙◌}
 use mathlib.Core.Bool.{Bool, true, false}
 use mathlib.Core.List.{List, [], ◌++◌}
-use lib.ListN.{length}
-use borrow.Author.Tests.{le-leb, lt-leb}
+use native.Mathlib.Omega.{arith}
+use lib.Dec.{leb}
+use lib.ListN.{length, take}
+use lib.Seq.{take_all}
+use Rattle.std.proofs.Common.{length-take-le}
+use borrow.Author.Tests.{le-leb, lt-leb, leb-true, leb-false}
 use Rattle.tables.specs.Refusal.{Refusal, refused, given, laid, number_of}
 use Rattle.assembly.specs.Words.{clips_words}
 use Rattle.media.specs.Calls.{parse_media_playlist, clips_read}
@@ -51,3 +55,15 @@ module _ (failed : Bool) (text : List ℕ) where
   pub came : failed ≡ false → program_text failed text ≡ sheet_text text
   unfolding program_text
   came e = rw e
+
+-- ---- the program reads a byte more than it prints the sheet of: of what is longer, that it is
+module _ (text : List ℕ) where
+  pub front_prints : sheet_text (take 65537 text) ≡ sheet_text text
+  front_prints = go (leb (length text) text_size) refl
+    where
+      go : (b : Bool) → leb (length text) text_size ≡ b → sheet_text (take 65537 text) ≡ sheet_text text
+      go true e = ap sheet_text (take_all 65537 text (omega (arith, leb-true (length text) text_size e)))
+      go false e =
+          let long : text_size < length text = leb-false (length text) text_size e in
+          let front : length (take 65537 text) ≡ 65537 = length-take-le 65537 text (omega (arith, long)) in
+          sym (too_long (take 65537 text) (omega (arith, front))) ∙ too_long text long

@@ -1,6 +1,6 @@
 // What is printed. Each function takes what waits in the output, and answers what waits after it; `sheet` prints the whole.
 ghost use Rattle.std.specs.Prelude.{◌≡◌};
-ghost use Rattle.output.specs.Puts.{Puts, PutsFirst};
+ghost use Rattle.output.specs.Puts.{Puts, PutsFirst, Sends, SendsFirst};
 ghost use Rattle.starts.specs.Answers.{cursor_of, row_of};
 ghost use Rattle.starts.specs.Starts.{next};
 ghost use Rattle.sheet.specs.Sheet as rule;
@@ -20,7 +20,8 @@ fn clip<O: Write>(
     words: &[u64],
     row: Row,
 ) -> Waits
-    ensures { Puts to.old to.new waits result (inside.row_line text.now words.now (row_of row)) }
+    ensures puts { Puts to.old to.new waits result (inside.row_line text.now words.now (row_of row)) }
+    ensures sent { Sends (O.contents stdout.old) (O.contents stdout.new) to.old to.new waits result (inside.row_line text.now words.now (row_of row)) }
 {
     let start = record::clip_word(words, row.clip, layout::URI_START);
     let end = record::clip_word(words, row.clip, layout::URI_END);
@@ -49,6 +50,7 @@ fn next_clip<O: Write>(
 ) -> Pass
     ensures moved { cursor_of result.starts ≡ inside.step_after (cursor_of s.starts) (next words.now (cursor_of s.starts)) }
     ensures puts { Puts to.old to.new s.waits result.waits (inside.step_line text.now words.now (next words.now (cursor_of s.starts))) }
+    ensures sent { Sends (O.contents stdout.old) (O.contents stdout.new) to.old to.new s.waits result.waits (inside.step_line text.now words.now (next words.now (cursor_of s.starts))) }
 {
     let starts = s.starts;
     let waits = s.waits;
@@ -70,7 +72,8 @@ fn clips<O: Write>(
     words: &[u64],
     starts: Starts,
 ) -> Waits
-    ensures { Puts to.old to.new waits result (inside.pass_lines text.now words.now (cursor_of starts) starts.clips) }
+    ensures puts { Puts to.old to.new waits result (inside.pass_lines text.now words.now (cursor_of starts) starts.clips) }
+    ensures sent { Sends (O.contents stdout.old) (O.contents stdout.new) to.old to.new waits result (inside.pass_lines text.now words.now (cursor_of starts) starts.clips) }
 {
     let clips = starts.clips;
     let mut s = Pass { starts, waits };
@@ -89,7 +92,8 @@ pub fn sheet<O: Write>(
     words: &[u64],
     starts: Starts,
 ) -> Waits
-    ensures { PutsFirst to.new result (inside.pass_sheet text.now words.now (cursor_of starts)) }
+    ensures puts { PutsFirst to.new result (inside.pass_sheet text.now words.now (cursor_of starts)) }
+    ensures sent { SendsFirst (O.contents stdout.old) (O.contents stdout.new) to.new result (inside.pass_sheet text.now words.now (cursor_of starts)) }
 {
     let header = b"clip\tstart\tlength\ttick\turi\n";
     let waits = output::put_bytes(stdout, to, Waits::none(), header);

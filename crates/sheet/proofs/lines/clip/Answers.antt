@@ -1,15 +1,24 @@
 -- `clip`: its fields and the URI, one behind the other. Assumes nothing.
-use Rattle.output.proofs.Laws.{puts_then}
+use Rattle.output.proofs.Laws.{puts_then, sends_then}
 use Rattle.sheet.specs.Sheet.{clip_line}
 use Rattle.sheet.specs.Inside.Pass.{row_line}
 use Rattle.sheet.proofs.lines.clip.Goals as goal
 
 pub returns : goal.returns
 unfolding row_line clip_line
-returns c =
-    puts_then c.field-waits.ensures
-    (puts_then c.field-waits-2.ensures
-    (puts_then c.field-waits-3.ensures
-    (puts_then c.field-waits-4.ensures
-    (puts_then (rw (c.clip_word-start.ensures, c.clip_word-end.ensures) at c.put_part-waits.ensures.puts)
-    c.put_byte.ensures.puts))))
+returns g c =
+    let line = c.put_byte.ensures.puts in
+    let uri = puts_then (rw (c.clip_word-start.ensures, c.clip_word-end.ensures) at c.put_part-waits.ensures.puts) line in
+    let tick = puts_then c.field-waits-4.ensures.puts uri in
+    let length = puts_then c.field-waits-3.ensures.puts tick in
+    let start = puts_then c.field-waits-2.ensures.puts length in
+    record {
+      puts = puts_then c.field-waits.ensures.puts start;
+      sent =
+          sends_then start c.field-waits.ensures.sent
+          (sends_then length c.field-waits-2.ensures.sent
+          (sends_then tick c.field-waits-3.ensures.sent
+          (sends_then uri c.field-waits-4.ensures.sent
+          (sends_then line (rw (c.clip_word-start.ensures, c.clip_word-end.ensures) at c.put_part-waits.ensures.sent)
+          c.put_byte.ensures.sent))));
+    }
