@@ -1,9 +1,14 @@
 -- What is said at each exit: 1 by the program's own size, the reader's refusals, and what the writer's call makes of the clips that were read. Assumes nothing.
 use Prim.Native.Nat.{ℕ, ◌≤◌, ◌<◌}
 use mathlib.Core.Path.{◌≡◌, refl, sym, ap, ◌∙◌}
+use mathlib.Core.Bool.{Bool, true, false}
 use mathlib.Core.List.{List, ◌++◌}
-use lib.ListN.{length}
-use borrow.Author.Tests.{le-leb, lt-leb}
+use native.Mathlib.Omega.{arith}
+use lib.Dec.{leb}
+use lib.ListN.{length, take}
+use lib.Seq.{take_all}
+use Rattle.std.proofs.Common.{length-take-le}
+use borrow.Author.Tests.{le-leb, lt-leb, leb-true, leb-false}
 use Rattle.tables.specs.Refusal.{Refusal, refused, given, laid, text_too_long}
 use Rattle.assembly.specs.Words.{clips_words}
 use Rattle.media.specs.Calls.{parse_media_playlist, clips_read}
@@ -37,3 +42,15 @@ module _ (text : List ℕ) where
       pub was_read : (entry words out : List ℕ) → length out ≡ file_room → words ≡ laid (parse_media_playlist text clip_room tag_room) (clips_words (clips_read text)) entry
           → words_file text words r.clips out ≡ cue_file text
       was_read entry words out l w = rw (w, e, clips_count text clip_room tag_room r e) (file_read _ out l ∙ within)
+
+-- ---- the program reads a byte more than it makes a file of: of what is longer, that it is
+module _ (text : List ℕ) where
+  pub front_files : cue_file (take 65537 text) ≡ cue_file text
+  front_files = go (leb (length text) text_size) refl
+    where
+      go : (b : Bool) → leb (length text) text_size ≡ b → cue_file (take 65537 text) ≡ cue_file text
+      go true e = ap cue_file (take_all 65537 text (omega (arith, leb-true (length text) text_size e)))
+      go false e =
+          let long : text_size < length text = leb-false (length text) text_size e in
+          let front : length (take 65537 text) ≡ 65537 = length-take-le 65537 text (omega (arith, long)) in
+          too_long (take 65537 text) (omega (arith, front)) ∙ sym (too_long text long)

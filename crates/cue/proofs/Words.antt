@@ -8,7 +8,6 @@ use native.Mathlib.Omega.{arith}
 use lib.Dec.{leb}
 use lib.ListN.{length}
 use borrow.Author.Tests.{le-leb}
-use Rattle.text.specs.Nom.{Span}
 use Rattle.text.specs.Spans.{span_in, shown}
 use Rattle.tables.specs.Layout.{text_limit}
 use Rattle.tables.specs.Table.{every, listed}
@@ -17,9 +16,9 @@ use Rattle.assembly.specs.Assembly.{Clip}
 use Rattle.records.proofs.Back.{All}
 use Rattle.roundtrip.proofs.Guaranteed.{SoundClipOf}
 use Rattle.clock.specs.Clock.{largest_total, sum_lengths}
-use Rattle.cue_file.specs.Format.{Cue, version1, file_of, file_holds}
-use Rattle.cue_file.specs.Write.{uri_of, cue_of, cues_of, keeps_rule, list_keeps, written, cue_write}
-use Rattle.read_clips.specs.Lists.{ns_of, total_of}
+use Rattle.cue_file.specs.Format.{version1, file_of, file_holds}
+use Rattle.cue_file.specs.Write.{uri_of, cue_of, cues_of, keeps_rule, list_keeps, cue_write}
+use Rattle.read_clips.specs.Lists.{total_of}
 use Rattle.read_clips.proofs.Words.{words, From, from_start, from_next, from_none, one_more, uri_from, sum_from, total_sum, clock_keeps, uri_within}
 use Rattle.cue.specs.File.{cues_from}
 use Rattle.cue.specs.Inside.Words.{filed, words_file}

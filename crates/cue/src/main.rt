@@ -2,10 +2,9 @@
 // It knows no rule of a playlist and no byte of a cue file: the reader fills the clip table, the writer makes the file of it.
 #![tactic(auto)]
 
-ghost use Rattle.std.specs.Prelude.{◌≡◌, false, length, take};
-ghost use Rattle.input.specs.declared.whole.Whole as wholeᵈ;
-ghost use Rattle.output.specs.Puts.{PutsFirst};
-ghost use Rattle.printing.specs.Said.{SaidAs, SaysAs};
+ghost use Rattle.std.specs.Prelude.{◌≡◌, true, false, length, take, IfSome};
+ghost use Rattle.output.specs.Puts.{PutsFirst, SendsFirst};
+ghost use Rattle.printing.specs.Said.{SaidAs, SaysAs, SendsAs, Tells};
 ghost use Rattle.cue.specs.File as rule;
 ghost use Rattle.cue.specs.Inside.Words as inside;
 
@@ -35,7 +34,8 @@ const TAG_ROOM: usize = TAGS * layout::TAG_WORDS;
 const FILE_ROOM: usize = CLIPS * cue_file::CLIP_WIDTH + TEXT_SIZE + cue_file::TRAILER_WIDTH;
 
 fn say_file<O: Write>(stdout: &mut O, to: &mut [u8; output::ROOM], file: &[u8]) -> Said
-    ensures { (result.refused ≡ false) × PutsFirst to.new result.waits file.now }
+    ensures puts { (result.refused ≡ false) × PutsFirst to.new result.waits file.now }
+    ensures sent { SendsFirst (O.contents stdout.old) (O.contents stdout.new) to.new result.waits file.now }
 {
     Said {
         refused: false,
@@ -50,7 +50,8 @@ fn say_front<O: Write>(
     out: &[u8],
     count: usize,
 ) -> Said
-    ensures { (result.refused ≡ false) × PutsFirst to.new result.waits (take count out.now) }
+    ensures puts { (result.refused ≡ false) × PutsFirst to.new result.waits (take count out.now) }
+    ensures sent { SendsFirst (O.contents stdout.old) (O.contents stdout.new) to.new result.waits (take count out.now) }
 {
     if out.len() <= count {
         return say_file(stdout, to, out);
@@ -68,7 +69,8 @@ fn make_file<O: Write, E: Write>(
     clips: usize,
     out: &mut [u8],
 ) -> Said
-    ensures { SaidAs to.new result (inside.words_file text.now words.now clips out.old) }
+    ensures says { SaidAs to.new result (inside.words_file text.now words.now clips out.old) }
+    ensures sent { SendsAs (O.contents stdout.old) (O.contents stdout.new) (E.contents stderr.old) (E.contents stderr.new) to.new result (inside.words_file text.now words.now clips out.old) }
 {
     match cue_writer::write(text, words, clips, out) {
         Laid::Refused(r) => printing::refusal(stderr, to, r.number(), 0),
@@ -86,7 +88,8 @@ fn read_list<O: Write, E: Write>(
     tags: &mut [u64; TAG_ROOM],
     out: &mut [u8; FILE_ROOM],
 ) -> Said
-    ensures { SaidAs to.new result (rule.cue_file text.now) }
+    ensures says { SaidAs to.new result (rule.cue_file text.now) }
+    ensures sent { SendsAs (O.contents stdout.old) (O.contents stdout.new) (E.contents stderr.old) (E.contents stderr.new) to.new result (rule.cue_file text.now) }
 {
     if TEXT_SIZE < text.len() {
         let too_long = Refusal::TextTooLong;
@@ -109,7 +112,8 @@ fn read_input<O: Write, E: Write>(
     tags: &mut [u64; TAG_ROOM],
     out: &mut [u8; FILE_ROOM],
 ) -> Said
-    ensures { SaysAs input.failed to.new result (rule.cue_file (take input.count text.now)) }
+    ensures says { SaysAs input.failed to.new result (rule.cue_file (take input.count text.now)) }
+    ensures sent { input.failed ≡ false → SendsAs (O.contents stdout.old) (O.contents stdout.new) (E.contents stderr.old) (E.contents stderr.new) to.new result (rule.cue_file (take input.count text.now)) }
 {
     let count = input.count;
     if input.failed {
@@ -124,7 +128,14 @@ fn read_input<O: Write, E: Write>(
     read_list(stdout, stderr, to, &text[0..count], clips, tags, out)
 }
 
-// What comes is the operating system's to say. The promise: there is an input of which this is said.
+// What came, and what is said of it.
+#[derive(Clone, Copy)]
+struct Ran {
+    input: Whole,
+    said: Said,
+}
+
+// What comes is the reader's to say.
 fn run<I: Read, O: Write, E: Write>(
     stdin: &mut I,
     stdout: &mut O,
@@ -134,11 +145,32 @@ fn run<I: Read, O: Write, E: Write>(
     clips: &mut [u64; CLIP_ROOM],
     tags: &mut [u64; TAG_ROOM],
     out: &mut [u8; FILE_ROOM],
-) -> Said
-    ensures { (input : wholeᵈ.Whole) × SaysAs input.failed to.new result (rule.cue_file (take input.count text.new)) }
+) -> Ran
+    ensures came { result.input.failed ≡ false → IfSome (I.remaining stdin.old) (λ bytes. take result.input.count text.new ≡ take (length text.new) bytes) }
+    ensures says { SaysAs result.input.failed to.new result.said (rule.cue_file (take result.input.count text.new)) }
+    ensures sent { result.input.failed ≡ false → SendsAs (O.contents stdout.old) (O.contents stdout.new) (E.contents stderr.old) (E.contents stderr.new) to.new result.said (rule.cue_file (take result.input.count text.new)) }
 {
     let input = whole::read_all(stdin, text);
-    read_input(stdout, stderr, to, text, input, clips, tags, out)
+    let said = read_input(stdout, stderr, to, text, input, clips, tags, out);
+    Ran { input, said }
+}
+
+// The whole program. It answers whether all was read and written: then the file of the list that came is written, or why there is none.
+fn write_all<I: Read, O: Write, E: Write>(
+    stdin: &mut I,
+    stdout: &mut O,
+    stderr: &mut E,
+    to: &mut [u8; output::ROOM],
+    text: &mut [u8; TEXT_ROOM],
+    clips: &mut [u64; CLIP_ROOM],
+    tags: &mut [u64; TAG_ROOM],
+    out: &mut [u8; FILE_ROOM],
+) -> bool
+    ensures { result ≡ true → IfSome (I.remaining stdin.old) (λ bytes. Tells (O.contents stdout.old) (O.contents stdout.new) (E.contents stderr.old) (E.contents stderr.new) (rule.cue_file bytes)) }
+{
+    let ran = run(stdin, stdout, stderr, to, text, clips, tags, out);
+    let went = printing::flush(stdout, stderr, to, ran.said);
+    !ran.input.failed && went
 }
 
 fn main(rt: HostRuntime) {
@@ -150,7 +182,7 @@ fn main(rt: HostRuntime) {
     let mut clips = [0u64; CLIP_ROOM];
     let mut tags = [0u64; TAG_ROOM];
     let mut out = [0u8; FILE_ROOM];
-    let said = run(
+    if write_all(
         &mut stdin,
         &mut stdout,
         &mut stderr,
@@ -159,8 +191,9 @@ fn main(rt: HostRuntime) {
         &mut clips,
         &mut tags,
         &mut out,
-    );
-    printing::flush(&mut stdout, &mut stderr, &to, said);
+    ) {
+        return;
+    }
     if let Some(e) = stdin.error {
         let _ = eprintln!(rt; "cue: read: {e}");
     }

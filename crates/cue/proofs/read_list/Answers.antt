@@ -1,28 +1,35 @@
 -- `read_list`: each exit by what is said there (`Exits`). Assumes nothing.
-use mathlib.Core.Path.{◌≡◌, sym, ap, ◌∙◌}
+use mathlib.Core.Path.{◌≡◌, refl, sym, ap, ◌∙◌}
 use lib.ListN.{length}
 use borrow.Author.Rules.{rules}
 use Rattle.media.specs.Answers.{parse_answer}
-use Rattle.printing.proofs.Exits.{said_refused}
+use Rattle.printing.proofs.Exits.{said_refused, sends_refused}
 use Rattle.cue.specs.File.{clip_room, tag_room, file_room}
 use Rattle.cue.proofs.Exits.{too_long, not_read, was_read}
 use Rattle.cue.proofs.read_list.Goals as goal
 
 pub returns-then-text-gt-TEXT_SIZE : goal.returns-then-text-gt-TEXT_SIZE
-returns-then-text-gt-TEXT_SIZE c =
-    let a = c.args in
-    said_refused _ _ 0 c.number.ensures (too_long a.text.now (search rules)) c.refusal.ensures
+returns-then-text-gt-TEXT_SIZE g c =
+    let why = too_long c.args.text.now (search rules) in
+    record {
+      says = said_refused _ _ 0 c.number.ensures why c.refusal.ensures.puts;
+      sent = sends_refused _ _ 0 c.number.ensures why refl c.refusal.ensures.sent;
+    }
 
 pub returns-in-Refused : goal.returns-in-Refused
-returns-in-Refused c =
+returns-in-Refused g c =
     let a = c.args in
     let l : length a.clips.now ≡ clip_room = search rules in
     let m : length a.tags.now ≡ tag_room = search rules in
     let e = sym c.parse_media_playlist.ensures.answered ∙ ap parse_answer c.in-Refused.is in
-    said_refused _ _ _ c.number-in-Refused.ensures (not_read a.text.now (search rules) _ _ (rw (l, m) at e)) c.refusal-in-Refused.ensures
+    let why = not_read a.text.now (search rules) _ _ (rw (l, m) at e) in
+    record {
+      says = said_refused _ _ _ c.number-in-Refused.ensures why c.refusal-in-Refused.ensures.puts;
+      sent = sends_refused _ _ _ c.number-in-Refused.ensures why refl c.refusal-in-Refused.ensures.sent;
+    }
 
 pub returns-in-Given : goal.returns-in-Given
-returns-in-Given c =
+returns-in-Given g c =
     let a = c.args in
     let l : length a.clips.now ≡ clip_room = search rules in
     let m : length a.tags.now ≡ tag_room = search rules in
@@ -30,4 +37,4 @@ returns-in-Given c =
     let e = sym c.parse_media_playlist.ensures.answered ∙ ap parse_answer c.in-Given.is in
     let w = c.parse_media_playlist.ensures.clips_after in
     let said = was_read a.text.now (search rules) c.in-Given.read (rw (l, m) at e) _ _ a.out.now o (rw (l, m) at w) in
-    rw said at c.make_file.ensures
+    record { says = rw said at c.make_file.ensures.says; sent = rw said at c.make_file.ensures.sent }

@@ -7,13 +7,13 @@ use borrow.Author.Rules.{rules}
 use Rattle.cue.proofs.say_front.Goals as goal
 
 pub returns-then-out-count : goal.returns-then-out-count
-returns-then-out-count c =
+returns-then-out-count g c =
     let a = c.args in
     let all = take_all a.count a.out.now (search rules) in
-    rw all c.say_file.ensures
+    record { puts = rw all c.say_file.ensures.puts; sent = rw all c.say_file.ensures.sent }
 
 pub returns : goal.returns
-returns c =
+returns g c =
     let a = c.args in
     let e : a.count - 0 ≡ a.count = omega arith in
-    rw e at c.say_file-2.ensures
+    record { puts = rw e at c.say_file-2.ensures.puts; sent = rw e at c.say_file-2.ensures.sent }
