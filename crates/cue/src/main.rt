@@ -195,9 +195,9 @@ fn main(rt: HostRuntime) {
         return;
     }
     if let Some(e) = stdin.error {
-        let _ = eprintln!(rt; "cue: read: {e}");
+        printing::tell(rt, "cue: read", e);
     }
     if let Some(e) = stdout.error.or(stderr.error) {
-        let _ = eprintln!(rt; "cue: write: {e}");
+        printing::tell(rt, "cue: write", e);
     }
 }
