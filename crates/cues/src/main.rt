@@ -115,9 +115,9 @@ fn main(rt: HostRuntime) {
         return;
     }
     if let Some(e) = stdin.error {
-        let _ = eprintln!(rt; "cues: read: {e}");
+        printing::tell(rt, "cues: read", e);
     }
     if let Some(e) = stdout.error.or(stderr.error) {
-        let _ = eprintln!(rt; "cues: write: {e}");
+        printing::tell(rt, "cues: write", e);
     }
 }

@@ -7,6 +7,7 @@ ghost use Rattle.output.specs.Puts.{Puts, PutsFirst, Sends, SendsFirst};
 ghost use Rattle.printing.specs.Lines as rule;
 
 use output::{ROOM, Waits};
+use std::io;
 use std::io::Write;
 
 // A number that ends a line.
@@ -68,4 +69,15 @@ pub fn flush<O: Write, E: Write>(out: &mut O, err: &mut E, to: &[u8; ROOM], said
         return output::flush(err, to, said.waits);
     }
     output::flush(out, to, said.waits)
+}
+
+// Says on standard error why a stream failed, in the operating system's words: the error's text also has its number, which nobody asked for.
+pub fn tell(rt: HostRuntime, what: &str, e: io::Error) {
+    let _ = match format!(in rt.alloc(); "{e}") {
+        Ok(text) => match text.split_once(" (os error ") {
+            Some((words, _)) => eprintln!(rt; "{what}: {words}"),
+            None => eprintln!(rt; "{what}: {text}"),
+        },
+        Err(_) => eprintln!(rt; "{what}: {e}"),
+    };
 }
