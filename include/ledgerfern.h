@@ -1,7 +1,7 @@
 /*
  * Ledgerfern: a proved reader and writer of HLS media playlists, with an exact clock. C99.
  *
- * Link with libledgerfern.a, which `rt staticlib ledgerfern` writes below target/staticlib (for x86-64).
+ * Link with libledgerfern.a, which `tools/archive` writes below target/staticlib (for x86-64).
  *
  * Every call answers for any bytes, any words and any numbers; each is proved to end, and to touch only the memory that
  * it is lent. Nothing is kept after a call and nothing is allocated: text and tables are the caller's, before and after.
@@ -63,7 +63,7 @@ enum ledgerfern_refusal {
 #define LEDGERFERN_TURN_LIMIT 999999                          /* the last turn; the first is 0 */
 
 /*
- * Tables of so many records hold what any text within the limit has: `never-short`, crates/media/proofs/Most.antt. How
+ * Tables of so many records hold what any text within the limit has: `never_short`, crates/media/proofs/Most.antt. How
  * many a text needs itself ledgerfern_room says.
  */
 #define LEDGERFERN_MOST_CLIPS 32765
