@@ -1,4 +1,3 @@
 -- what digits write
 pub mod Number
 -- no second answer fits a contract
-pub mod Only

@@ -4,16 +4,16 @@ ghost use Rattle.text.specs.BasicTags as rule;
 ghost use Rattle.text.specs.Answers.{place_res, part_res, span_of};
 ghost use Rattle.leaves.specs.Answers.{ext_tag_res, type_of, playlist_type_res};
 
-use text::{Part, PartRes, PlaceRes, Span, Why};
+use text::{IResult, Span, Why};
 
 // The text's first seven bytes: `#EXTM3U`. What follows them is not looked at.
-pub fn m3u_tag(text: &[u8], at: usize) -> PlaceRes
+pub fn m3u_tag(text: &[u8], at: usize) -> IResult<()>
     ensures { place_res result ≡ rule.m3u_tag text.now at }
 {
     if scan::starts_with(text, at, b"#EXTM3U") {
-        PlaceRes::Ok(at + 7)
+        Ok(((), at + 7))
     } else {
-        PlaceRes::Fail(Why::OtherText)
+        Err(Why::OtherText)
     }
 }
 
@@ -21,59 +21,47 @@ pub fn m3u_tag(text: &[u8], at: usize) -> PlaceRes
 #[derive(Clone, Copy)]
 pub struct ExtTag {
     pub tag: Span,
-    pub rest: Part,
-}
-
-#[derive(Clone, Copy)]
-pub enum ExtTagRes {
-    Fail(Why),
-    Ok(ExtTag, usize),
+    pub rest: Option<Span>,
 }
 
 // An unknown tag: its name, and its rest if that is not empty.
-pub fn ext_tag(text: &[u8], at: usize) -> ExtTagRes
+pub fn ext_tag(text: &[u8], at: usize) -> IResult<ExtTag>
     ensures { ext_tag_res result ≡ rule.ext_tag text.now at }
 {
-    if scan::starts_with(text, at, b"#EXT-") {
-        let name = at + 5;
-        let name_end = blocks::until_three(text, name, b'\r', b'\n', b':');
-        if name_end <= name {
-            return ExtTagRes::Fail(Why::NameEmpty);
-        }
-        let rest = scan::after_tag(text, name_end, b":");
-        let rest_end = blocks::line_end(text, rest);
-        if text.len() <= rest_end {
-            return ExtTagRes::Fail(Why::MissingByte);
-        }
-        ExtTagRes::Ok(
-            ExtTag {
-                tag: Span {
-                    start: name,
-                    end: name_end,
-                },
-                rest: scan::part(rest, rest_end),
-            },
-            rest_end + 1,
-        )
-    } else {
-        ExtTagRes::Fail(Why::OtherText)
+    if !scan::starts_with(text, at, b"#EXT-") {
+        return Err(Why::OtherText);
     }
+    let name = at + 5;
+    let name_end = blocks::until_three(text, name, b'\r', b'\n', b':');
+    if name_end <= name {
+        return Err(Why::NameEmpty);
+    }
+    let rest = scan::after_tag(text, name_end, b":");
+    let rest_end = blocks::line_end(text, rest);
+    if text.len() <= rest_end {
+        return Err(Why::MissingByte);
+    }
+    let tag = Span {
+        start: name,
+        end: name_end,
+    };
+    let rest = scan::part(rest, rest_end);
+    Ok((ExtTag { tag, rest }, rest_end + 1))
 }
 
 // A comment: what follows `#` on the line, perhaps nothing.
-pub fn comment_tag(text: &[u8], at: usize) -> PartRes
+pub fn comment_tag(text: &[u8], at: usize) -> IResult<Option<Span>>
     ensures { part_res result ≡ rule.comment_tag text.now at }
 {
-    if scan::starts_with(text, at, b"#") {
-        let start = at + 1;
-        let end = blocks::line_end(text, start);
-        if text.len() <= end {
-            return PartRes::Fail(Why::MissingByte);
-        }
-        PartRes::Ok(scan::part(start, end), end + 1)
-    } else {
-        PartRes::Fail(Why::OtherText)
+    if !scan::starts_with(text, at, b"#") {
+        return Err(Why::OtherText);
     }
+    let start = at + 1;
+    let end = blocks::line_end(text, start);
+    if text.len() <= end {
+        return Err(Why::MissingByte);
+    }
+    Ok((scan::part(start, end), end + 1))
 }
 
 // enum MediaPlaylistType { Event, Vod, Other(String) }
@@ -82,12 +70,6 @@ pub enum PlaylistType {
     Event,
     Vod,
     Other(Span),
-}
-
-#[derive(Clone, Copy)]
-pub enum PlaylistTypeRes {
-    Fail(Why),
-    Ok(PlaylistType, usize),
 }
 
 fn from_str(text: &[u8], typ: Span) -> PlaylistType
@@ -103,15 +85,15 @@ fn from_str(text: &[u8], typ: Span) -> PlaylistType
 }
 
 // The type is the whole line, blanks included.
-pub fn playlist_type(text: &[u8], at: usize) -> PlaylistTypeRes
+pub fn playlist_type(text: &[u8], at: usize) -> IResult<PlaylistType>
     ensures { playlist_type_res result ≡ rule.playlist_type text.now at }
 {
     let end = blocks::line_end(text, at);
     if end <= at {
-        return PlaylistTypeRes::Fail(Why::TypeEmpty);
+        return Err(Why::TypeEmpty);
     }
     if text.len() <= end {
-        return PlaylistTypeRes::Fail(Why::MissingByte);
+        return Err(Why::MissingByte);
     }
-    PlaylistTypeRes::Ok(from_str(text, Span { start: at, end }), end + 1)
+    Ok((from_str(text, Span { start: at, end }), end + 1))
 }

@@ -6,21 +6,21 @@ ghost use Rattle.text.specs.Answers.{span_res};
 ghost use Rattle.leaves.specs.Inside.Ends.{pick_parsed, placed_of};
 ghost use Rattle.leaves.specs.Answers.{parsed_of, byte_range_res};
 
-use text::{Span, SpanRes, Why};
+use text::{IResult, Span, Why};
 
 // A line up to CR LF, LF or the text's end, and the place after its end. A CR that no LF follows fails.
-pub fn consume_line(text: &[u8], at: usize) -> SpanRes
+pub fn consume_line(text: &[u8], at: usize) -> IResult<Span>
     ensures { span_res result ≡ rule.consume_line text.now at }
 {
     let end = blocks::line_end(text, at);
     let line = Span { start: at, end };
     if scan::starts_with(text, end, b"\r") {
         if scan::starts_with(text, end, b"\r\n") {
-            return SpanRes::Ok(line, end + 2);
+            return Ok((line, end + 2));
         }
-        return SpanRes::Fail(Why::LoneCr);
+        return Err(Why::LoneCr);
     }
-    SpanRes::Ok(line, scan::after_tag(text, end, b"\n"))
+    Ok((line, scan::after_tag(text, end, b"\n")))
 }
 
 // What the digits at a place write, with the place after them.
@@ -104,27 +104,15 @@ pub fn number(text: &[u8], at: usize) -> Parsed
 
 // struct ByteRange { length: u64, offset: Option<u64> }
 #[derive(Clone, Copy)]
-pub enum Offset {
-    Absent,
-    At(u64),
-}
-
-#[derive(Clone, Copy)]
 pub struct ByteRange {
     pub length: u64,
-    pub offset: Offset,
-}
-
-#[derive(Clone, Copy)]
-pub enum ByteRangeRes {
-    Fail(Why),
-    Ok(ByteRange, usize),
+    pub offset: Option<u64>,
 }
 
 // An offset and the place after it, or none and the same place.
 #[derive(Clone, Copy)]
 struct Placed {
-    offset: Offset,
+    offset: Option<u64>,
     end: usize,
 }
 
@@ -133,7 +121,7 @@ fn offset_val(text: &[u8], at: usize) -> Placed
     ensures { placed_of result ≡ opt (preceded (tag (bytes "@")) rule.number) text.now at }
 {
     let none = Placed {
-        offset: Offset::Absent,
+        offset: None,
         end: at,
     };
     if !scan::starts_with(text, at, b"@") {
@@ -141,7 +129,7 @@ fn offset_val(text: &[u8], at: usize) -> Placed
     }
     match number(text, at + 1) {
         Parsed::Value(o, end) => {
-            let offset = Offset::At(o);
+            let offset = Some(o);
             Placed { offset, end }
         }
         Parsed::TooLarge(_) => none,
@@ -150,16 +138,16 @@ fn offset_val(text: &[u8], at: usize) -> Placed
 }
 
 // A length, perhaps with an offset.
-pub fn byte_range_val(text: &[u8], at: usize) -> ByteRangeRes
+pub fn byte_range_val(text: &[u8], at: usize) -> IResult<ByteRange>
     ensures { byte_range_res result ≡ rule.byte_range_val text.now at }
 {
     match number(text, at) {
         Parsed::Value(length, end) => {
             let placed = offset_val(text, end);
             let offset = placed.offset;
-            ByteRangeRes::Ok(ByteRange { length, offset }, placed.end)
+            Ok((ByteRange { length, offset }, placed.end))
         }
-        Parsed::TooLarge(_) => ByteRangeRes::Fail(Why::TooLarge),
-        Parsed::NoDigits => ByteRangeRes::Fail(Why::NoDigits),
+        Parsed::TooLarge(_) => Err(Why::TooLarge),
+        Parsed::NoDigits => Err(Why::NoDigits),
     }
 }

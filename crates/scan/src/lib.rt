@@ -8,7 +8,7 @@ ghost use Rattle.text.specs.Util as util;
 ghost use Rattle.text.specs.Spans.{span_fits};
 ghost use Rattle.text.specs.Answers.{span_of, part_of};
 
-use text::{Part, Span};
+use text::Span;
 
 pub fn is_digit(b: u8) -> bool
     ensures { result ≡ is_digit b }
@@ -95,14 +95,10 @@ pub fn spells(text: &[u8], part: Span, word: &[u8]) -> bool
 }
 
 // The part between two places; an empty one is absent.
-pub fn part(start: usize, end: usize) -> Part
+pub fn part(start: usize, end: usize) -> Option<Span>
     ensures { part_of result ≡ span_or start end }
 {
-    if start < end {
-        Part::Present(Span { start, end })
-    } else {
-        Part::Absent
-    }
+    (start < end).then_some(Span { start, end })
 }
 
 // The end of the run of digits at `at`.

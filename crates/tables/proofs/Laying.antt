@@ -9,12 +9,12 @@ use native.Mathlib.Nat.{zero-mul, suc-mul, mul-le-mul_right, le_trans, eq-or-lt_
 use native.Mathlib.Numerals.{add-one}
 use native.Mathlib.Omega.{arith}
 use lib.ListN.{length, drop, get_or, length-append}
-use Rattle.tables.specs.declared.Laid as laidᵈ
-use Rattle.tables.specs.declared.Laid.TheVariants as laidᵛ
+use Rattle.std.specs.Prelude.{Result}
+use Rattle.tables.specs.declared.Refusal as refusalᵈ
 use Rattle.tables.specs.Refusal.{Refusal, Answer, refused, given, laid}
 use Rattle.tables.specs.Answers.{laid_of, LaidAs}
 use Rattle.tables.specs.Table.{records, fits, word_at, stored}
-use Rattle.tables.proofs.Refusals.{named, named_back, only_one}
+use Rattle.tables.proofs.Refusals.{answer_only}
 use Rattle.tables.proofs.Records.{fits_words}
 use Rattle.tables.proofs.Sets.{words_back, stored_behind}
 
@@ -50,25 +50,16 @@ module _ (w : ℕ) (at : ℕ → List ℕ) (wide : (k : ℕ) → length (at k) �
       (eq-or-lt_of_le (le_of_suc-le-suc h)))
 
 -- ---- a call that fills a lent table
-module _ (answer : Answer ℕ) (ws out : List ℕ) (r : laidᵈ.Laid) where
+module _ (answer : Answer ℕ) (ws out : List ℕ) (r : Result ℕ refusalᵈ.Refusal) where
   pub as_refused : (x : Refusal) → laid_of r ≡ refused x 0 → answer ≡ refused x 0 → LaidAs answer ws out out r
   as_refused x v e = record { answered = v ∙ sym e; out_after = rw e }
 
   pub as_given : (n : ℕ) (after : List ℕ) → laid_of r ≡ given n → answer ≡ given n → after ≡ laid (given n) ws out → LaidAs answer ws out after r
   as_given n after v e a = record { answered = v ∙ sym e; out_after = rw e a }
 
-laid_from : Answer ℕ → laidᵈ.Laid
-laid_from (refused r p) = laidᵛ.Refused (named r)
-laid_from (given n) = laidᵛ.Given n
-
-laid_back : (a : laidᵈ.Laid) → laid_from (laid_of a) ≡ a
-unfolding laid_from
-laid_back (laidᵛ.Refused r) = ap laidᵛ.Refused (named_back r)
-laid_back (laidᵛ.Given n) = refl
-
-module _ {answer : Answer ℕ} {ws out₀ out out' : List ℕ} {r r' : laidᵈ.Laid} (p : LaidAs answer ws out₀ out r) (q : LaidAs answer ws out₀ out' r') where
+module _ {answer : Answer ℕ} {ws out₀ out out' : List ℕ} {r r' : Result ℕ refusalᵈ.Refusal} (p : LaidAs answer ws out₀ out r) (q : LaidAs answer ws out₀ out' r') where
   pub laid_once : r ≡ r'
-  laid_once = only_one laid_of laid_from laid_back answer r r' p.answered q.answered
+  laid_once = answer_only (λ n. n) (λ n. n) (λ n. refl) answer r r' p.answered q.answered
 
   pub out_once : out ≡ out'
   out_once = p.out_after ∙ sym q.out_after

@@ -1,5 +1,6 @@
 -- Chains of `or_refuse`, as fronts that stand before an answer; and why no second result fits a promise `view r ≡ answer`.
 -- Assumes nothing.
+use Rattle.std.specs.Prelude.{Result, Ok, Err}
 use mathlib.Core.Path.{◌≡◌, refl, sym, ap, ◌∙◌}
 use mathlib.Core.Bool.{Bool, true, false}
 use mathlib.Core.List.{List, [], ◌∷◌}
@@ -9,7 +10,8 @@ use lib.ListN.{get_or}
 use Rattle.tables.specs.declared.Refusal as refusalᵈ
 use Rattle.tables.specs.declared.Refusal.TheVariants as refusalᵛ
 use Rattle.tables.specs.Refusal.{Refusal, text_too_long, not_utf8, no_header, is_master, left_out_tag, too_many_digits, clip_table_short, tag_table_short, broken_table, output_short, total_too_long, bad_rate, turn_too_late, no_such_clip, window_too_far, no_range_before, nothing_plays, tick_too_late, file_too_short, other_version, not_exact, bad_start, too_wide, number_of, Answer, refused, given, or_refuse}
-use Rattle.tables.specs.Answers.{refusal_of}
+use Rattle.tables.specs.declared.Refused as refusedᵈ
+use Rattle.tables.specs.Answers.{refusal_of, answer, answer_at}
 
 -- where one is refused, so is the other, by the same row and at the same place
 abbrev pub RefusesAs : {A B : Type 0} → Answer A → Answer B → Type 0
@@ -114,6 +116,32 @@ named_back refusalᵛ.OtherVersion = refl
 named_back refusalᵛ.NotExact = refl
 named_back refusalᵛ.BadStart = refl
 named_back refusalᵛ.TooWide = refl
+
+-- so does a call's answer, where its value's view has one; a refusal alone has place 0
+module _ {A B : Type 0} (view : A → B) (back : B → A) (h : (a : A) → back (view a) ≡ a) where
+  answer_from : Answer B → Result A refusalᵈ.Refusal
+  answer_from (refused r p) = Err (named r)
+  answer_from (given b) = Ok (back b)
+
+  answer_back : (a : Result A refusalᵈ.Refusal) → answer_from (answer view a) ≡ a
+  unfolding answer_from
+  answer_back (Err r) = ap Err (named_back r)
+  answer_back (Ok a) = ap Ok (h a)
+
+  pub answer_only : (x : Answer B) (a b : Result A refusalᵈ.Refusal) → answer view a ≡ x → answer view b ≡ x → a ≡ b
+  answer_only = only_one (answer view) answer_from answer_back
+
+  answer_at_from : Answer B → Result A refusedᵈ.Refused
+  answer_at_from (refused r p) = Err (record { refusal = named r; place = p })
+  answer_at_from (given b) = Ok (back b)
+
+  answer_at_back : (a : Result A refusedᵈ.Refused) → answer_at_from (answer_at view a) ≡ a
+  unfolding answer_at_from
+  answer_at_back (Err r) = ap (λ (q : refusalᵈ.Refusal). Err (record { refusal = q; place = r.place })) (named_back r.refusal)
+  answer_at_back (Ok a) = ap Ok (h a)
+
+  pub answer_at_only : (x : Answer B) (a b : Result A refusedᵈ.Refused) → answer_at view a ≡ x → answer_at view b ≡ x → a ≡ b
+  answer_at_only = only_one (answer_at view) answer_at_from answer_at_back
 
 -- ---- a refusal and its number: 01's rows in order, then 02's without a gap; behind the gap stands 33
 abbrev rows : List Refusal

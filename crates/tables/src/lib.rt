@@ -11,36 +11,29 @@ pub mod record; // the count fits, the words of a record, its flags
 // 01's table "Numbers given back", row by row, and the numbers that document 02's requests add.
 #[derive(Clone, Copy)]
 pub enum Refusal {
-    TextTooLong,
-    NotUtf8,
-    NoHeader,
-    IsMaster,
-    LeftOutTag,
-    TooManyDigits,
-    ClipTableShort,
-    TagTableShort,
-    BrokenTable,
-    OutputShort,
-    TotalTooLong,
-    BadRate,
-    TurnTooLate,
-    NoSuchClip,
-    WindowTooFar,
-    NoRangeBefore,
-    NothingPlays,
-    TickTooLate,
-    FileTooShort,
-    OtherVersion,
-    NotExact,
-    BadStart,
-    TooWide,
-}
-
-// How many records were laid into a lent table, or why none was.
-#[derive(Clone, Copy)]
-pub enum Laid {
-    Refused(Refusal),
-    Given(usize),
+    TextTooLong = 1,
+    NotUtf8 = 2,
+    NoHeader = 3,
+    IsMaster = 4,
+    LeftOutTag = 5,
+    TooManyDigits = 6,
+    ClipTableShort = 7,
+    TagTableShort = 8,
+    BrokenTable = 9,
+    OutputShort = 10,
+    TotalTooLong = 11,
+    BadRate = 12,
+    TurnTooLate = 13,
+    NoSuchClip = 14,
+    WindowTooFar = 15,
+    NoRangeBefore = 16,
+    NothingPlays = 17,
+    TickTooLate = 18,
+    FileTooShort = 19,
+    OtherVersion = 20,
+    NotExact = 21,
+    BadStart = 22,
+    TooWide = 33,
 }
 
 impl Refusal {
@@ -48,30 +41,22 @@ impl Refusal {
     pub fn number(self) -> u64
         ensures { result ≡ number_of (refusal_of self) }
     {
-        match self {
-            Refusal::TextTooLong => 1,
-            Refusal::NotUtf8 => 2,
-            Refusal::NoHeader => 3,
-            Refusal::IsMaster => 4,
-            Refusal::LeftOutTag => 5,
-            Refusal::TooManyDigits => 6,
-            Refusal::ClipTableShort => 7,
-            Refusal::TagTableShort => 8,
-            Refusal::BrokenTable => 9,
-            Refusal::OutputShort => 10,
-            Refusal::TotalTooLong => 11,
-            Refusal::BadRate => 12,
-            Refusal::TurnTooLate => 13,
-            Refusal::NoSuchClip => 14,
-            Refusal::WindowTooFar => 15,
-            Refusal::NoRangeBefore => 16,
-            Refusal::NothingPlays => 17,
-            Refusal::TickTooLate => 18,
-            Refusal::FileTooShort => 19,
-            Refusal::OtherVersion => 20,
-            Refusal::NotExact => 21,
-            Refusal::BadStart => 22,
-            Refusal::TooWide => 33,
-        }
+        self as u64
+    }
+}
+
+// A refusal, and the place in the text where it was met.
+#[derive(Clone, Copy)]
+pub struct Refused {
+    pub refusal: Refusal,
+    pub place: usize,
+}
+
+impl From<Refusal> for Refused {
+    ghost from_gives = { λ r e. e ≡ record { refusal = r; place = 0 } };
+
+    // One that has no place of its own.
+    fn from(refusal: Refusal) -> Refused {
+        Refused { refusal, place: 0 }
     }
 }

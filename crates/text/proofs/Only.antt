@@ -1,20 +1,13 @@
 -- An answer is determined: no second one meets a contract, since from what an answer says (its view) there is a way back to it. Assumes nothing.
+use Rattle.std.specs.Prelude.{ℕ, Result, Ok, Err, Option as Perhaps, None, Some, ⊤}
 use mathlib.Core.Path.{◌≡◌, refl, sym, ◌∙◌, ap}
 use mathlib.Core.Option.{Option, none, some}
 use Rattle.text.specs.declared.Why as whyᵈ
 use Rattle.text.specs.declared.Why.TheVariants as whyᵛ
 use Rattle.text.specs.declared.Span as spanᵈ
-use Rattle.text.specs.declared.Part as partᵈ
-use Rattle.text.specs.declared.Part.TheVariants as partᵛ
-use Rattle.text.specs.declared.SpanRes.{SpanRes}
-use Rattle.text.specs.declared.SpanRes.TheVariants as spanResᵛ
-use Rattle.text.specs.declared.PartRes.{PartRes}
-use Rattle.text.specs.declared.PartRes.TheVariants as partResᵛ
-use Rattle.text.specs.declared.PlaceRes.{PlaceRes}
-use Rattle.text.specs.declared.PlaceRes.TheVariants as placeResᵛ
 use Rattle.text.specs.Why.{Why, other_text, no_digits, too_large, missing_byte, type_empty, name_empty, no_uri, uri_not_quoted, range_not_quoted, range_bad, lone_cr}
 use Rattle.text.specs.Nom.{Res, fail, ok, Span, span}
-use Rattle.text.specs.Answers.{why_of, span_of, part_of, span_res, part_res, place_res}
+use Rattle.text.specs.Answers.{why_of, span_of, perhaps, part_of, res_of, span_res, part_res, place_res}
 
 module _ {A B : Type 0} (view : A → B) where
   -- two answers that say the same are the same
@@ -67,46 +60,47 @@ span_back_lem s = refl
 pub span_only : Only span_of
 span_only = only_by span_of span_back span_back_lem
 
-abbrev pub part_back : Option Span → partᵈ.Part
-part_back none = partᵛ.Absent
-part_back (some s) = partᵛ.Present (span_back s)
+-- ---- what may be missing, and a rule's answer: as determined as what they hold
+module _ {A B : Type 0} (view : A → B) (back : B → A) (h : (a : A) → back (view a) ≡ a) where
+  abbrev pub perhaps_back : Option B → Perhaps A
+  perhaps_back none = None
+  perhaps_back (some b) = Some (back b)
 
-pub part_back_lem : (p : partᵈ.Part) → part_back (part_of p) ≡ p
-part_back_lem partᵛ.Absent = refl
-part_back_lem (partᵛ.Present s) = refl
+  pub perhaps_back_lem : (p : Perhaps A) → perhaps_back (perhaps view p) ≡ p
+  perhaps_back_lem None = refl
+  perhaps_back_lem (Some a) = ap Some (h a)
+
+  pub perhaps_only : Only (perhaps view)
+  perhaps_only = only_by (perhaps view) perhaps_back perhaps_back_lem
+
+  abbrev res_back : Res B → Result (A × ℕ) whyᵈ.Why
+  res_back (fail why) = Err (why_back why)
+  res_back (ok b n) = Ok (back b , n)
+
+  pub res_only : Only (res_of view)
+  res_only = only_by (res_of view) res_back go
+    where
+      go : (r : Result (A × ℕ) whyᵈ.Why) → res_back (res_of view r) ≡ r
+      go (Err why) = ap Err (why_back_lem why)
+      go (Ok v) = ap (λ (a : A). Ok (a , v.1)) (h v.0)
+
+abbrev pub part_back : Option Span → Perhaps spanᵈ.Span
+part_back = perhaps_back span_of span_back span_back_lem
+
+pub part_back_lem : (p : Perhaps spanᵈ.Span) → part_back (part_of p) ≡ p
+part_back_lem = perhaps_back_lem span_of span_back span_back_lem
 
 pub part_only : Only part_of
-part_only = only_by part_of part_back part_back_lem
-
-abbrev span_res_back : Res Span → SpanRes
-span_res_back (fail why) = spanResᵛ.Fail (why_back why)
-span_res_back (ok s n) = spanResᵛ.Ok (span_back s) n
+part_only = perhaps_only span_of span_back span_back_lem
 
 pub span_res_only : Only span_res
-span_res_only = only_by span_res span_res_back go
-  where
-    go : (r : SpanRes) → span_res_back (span_res r) ≡ r
-    go (spanResᵛ.Fail why) = ap spanResᵛ.Fail (why_back_lem why)
-    go (spanResᵛ.Ok s n) = refl
-
-abbrev part_res_back : Res (Option Span) → PartRes
-part_res_back (fail why) = partResᵛ.Fail (why_back why)
-part_res_back (ok p n) = partResᵛ.Ok (part_back p) n
+span_res_only = res_only span_of span_back span_back_lem
 
 pub part_res_only : Only part_res
-part_res_only = only_by part_res part_res_back go
-  where
-    go : (r : PartRes) → part_res_back (part_res r) ≡ r
-    go (partResᵛ.Fail why) = ap partResᵛ.Fail (why_back_lem why)
-    go (partResᵛ.Ok p n) = ap (λ (q : partᵈ.Part). partResᵛ.Ok q n) (part_back_lem p)
+part_res_only = res_only part_of part_back part_back_lem
 
-abbrev place_res_back : Res (Unit {0}) → PlaceRes
-place_res_back (fail why) = placeResᵛ.Fail (why_back why)
-place_res_back (ok u n) = placeResᵛ.Ok n
+abbrev unit_back : Unit {0} → ⊤
+unit_back u = tt
 
 pub place_res_only : Only place_res
-place_res_only = only_by place_res place_res_back go
-  where
-    go : (r : PlaceRes) → place_res_back (place_res r) ≡ r
-    go (placeResᵛ.Fail why) = ap placeResᵛ.Fail (why_back_lem why)
-    go (placeResᵛ.Ok n) = refl
+place_res_only = res_only (λ (u : ⊤). tt) unit_back (λ u. refl)

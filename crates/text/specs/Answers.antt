@@ -1,16 +1,9 @@
 -- What each answer of the code says, in the words of the rules. Assumes nothing.
+use Rattle.std.specs.Prelude.{ℕ, Result, Ok, Err, Option as Perhaps, None, Some, ⊤}
 use Rattle.std.proofs.Math.Option.{Option, none, some}
 use Rattle.text.specs.declared.Why as whyᵈ
 use Rattle.text.specs.declared.Why.TheVariants as whyᵛ
 use Rattle.text.specs.declared.Span as spanᵈ
-use Rattle.text.specs.declared.Part as partᵈ
-use Rattle.text.specs.declared.Part.TheVariants as partᵛ
-use Rattle.text.specs.declared.SpanRes.{SpanRes}
-use Rattle.text.specs.declared.SpanRes.TheVariants as spanResᵛ
-use Rattle.text.specs.declared.PartRes.{PartRes}
-use Rattle.text.specs.declared.PartRes.TheVariants as partResᵛ
-use Rattle.text.specs.declared.PlaceRes.{PlaceRes}
-use Rattle.text.specs.declared.PlaceRes.TheVariants as placeResᵛ
 use Rattle.text.specs.Why.{Why, other_text, no_digits, too_large, missing_byte, type_empty, name_empty, no_uri, uri_not_quoted, range_not_quoted, range_bad, lone_cr}
 use Rattle.text.specs.Nom.{Res, fail, ok, Span, span}
 
@@ -30,18 +23,26 @@ why_of whyᵛ.LoneCr = lone_cr
 abbrev pub span_of : spanᵈ.Span → Span
 span_of s = span s.start s.end
 
-abbrev pub part_of : partᵈ.Part → Option Span
-part_of partᵛ.Absent = none
-part_of (partᵛ.Present s) = some (span_of s)
+-- a value that may be missing, by what it says
+module _ {A B : Type 0} where
+  abbrev pub perhaps : (A → B) → Perhaps A → Option B
+  perhaps f None = none
+  perhaps f (Some x) = some (f x)
 
-abbrev pub span_res : SpanRes → Res Span
-span_res (spanResᵛ.Fail why) = fail (why_of why)
-span_res (spanResᵛ.Ok s n) = ok (span_of s) n
+abbrev pub part_of : Perhaps spanᵈ.Span → Option Span
+part_of = perhaps span_of
 
-abbrev pub part_res : PartRes → Res (Option Span)
-part_res (partResᵛ.Fail why) = fail (why_of why)
-part_res (partResᵛ.Ok s n) = ok (part_of s) n
+-- IResult, by what its value says
+module _ {A B : Type 0} where
+  abbrev pub res_of : (A → B) → Result (A × ℕ) whyᵈ.Why → Res B
+  res_of f (Err why) = fail (why_of why)
+  res_of f (Ok v) = ok (f v.0) v.1
 
-abbrev pub place_res : PlaceRes → Res (Unit {0})
-place_res (placeResᵛ.Fail why) = fail (why_of why)
-place_res (placeResᵛ.Ok n) = ok tt n
+abbrev pub span_res : Result (spanᵈ.Span × ℕ) whyᵈ.Why → Res Span
+span_res = res_of span_of
+
+abbrev pub part_res : Result (Perhaps spanᵈ.Span × ℕ) whyᵈ.Why → Res (Option Span)
+part_res = res_of part_of
+
+abbrev pub place_res : Result (⊤ × ℕ) whyᵈ.Why → Res (Unit {0})
+place_res = res_of (λ _. tt)

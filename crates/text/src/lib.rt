@@ -9,13 +9,6 @@ pub struct Span {
     pub end: usize,
 }
 
-// A part that may be missing: the crate's Option<String>.
-#[derive(Clone, Copy)]
-pub enum Part {
-    Absent,
-    Present(Span),
-}
-
 // Why a rule fails: the first thing met.
 #[derive(Clone, Copy)]
 pub enum Why {
@@ -32,21 +25,5 @@ pub enum Why {
     LoneCr,
 }
 
-// A rule's answer where its value is a part, perhaps a missing one, or nothing but the place after.
-#[derive(Clone, Copy)]
-pub enum SpanRes {
-    Fail(Why),
-    Ok(Span, usize),
-}
-
-#[derive(Clone, Copy)]
-pub enum PartRes {
-    Fail(Why),
-    Ok(Part, usize),
-}
-
-#[derive(Clone, Copy)]
-pub enum PlaceRes {
-    Fail(Why),
-    Ok(usize),
-}
+// nom's `IResult`: a rule's value and the place after it, or why the rule fails.
+pub type IResult<T> = Result<(T, usize), Why>;
