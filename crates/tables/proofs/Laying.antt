@@ -1,6 +1,6 @@
 -- Records laid one after the other, of any width: what is laid so far stands at the table's front, and the rest is as it was. Rests on `stored_behind`.
 -- And what a call that lays them has in hand at its ways out; no second result fits its promise. Assumes nothing.
-use mathlib.Core.Path.{◌≡◌, refl, sym, ap, ◌∙◌, subst}
+use mathlib.Core.Path.{◌≡◌, refl, sym, ◌∙◌, subst}
 use mathlib.Core.Bool.{true}
 use mathlib.Core.List.{List, ◌++◌, append_assoc}
 use mathlib.Core.Logic.{⊎_elim}

@@ -6,8 +6,8 @@ use Prim.Native.Nat.{ℕ, zero, suc, ◌+◌, ◌-◌, ◌≤◌, ◌<◌}
 use native.Mathlib.Nat.{zero-add, add-zero, sub-zero}
 use native.Mathlib.Numerals.{add-one}
 use native.Mathlib.Omega.{arith}
-use lib.ListN.{set, length, take, drop, drop_of_length-le}
-use lib.Seq.{sets, take_at, drop_at}
+use lib.ListN.{set, length, take, drop, get_or, drop_of_length-le}
+use lib.Seq.{sets, take_at, drop_at, drop-cons}
 use Rattle.tables.specs.Table.{listed}
 use Rattle.tables.proofs.Sets.{sets_over}
 
@@ -64,6 +64,18 @@ module _ {A : Type 0} (at : ℕ → A) where
   listed_run f n m h =
       let e : m - f ≡ n + (m - f - n) = omega arith in
       rw (listed_drop f m (omega arith), e) (listed_take f n (m - f - n))
+
+-- a run of words, word by word
+pub listed_words : (l : List ℕ) (at n m : ℕ) → m ≡ n → at + n ≤ length l → take m (drop at l) ≡ listed (λ i. get_or l (at + i) 0) 0 n
+unfolding listed
+listed_words l at n m d h = let e : at ≡ at + 0 = omega arith in ap (λ (k : ℕ). take k (drop at l)) d ∙ ap (λ (q : ℕ). take n (drop q l)) e ∙ go 0 n (omega arith)
+  where
+    go : (k n : ℕ) → at + k + n ≤ length l → take n (drop (at + k) l) ≡ listed (λ i. get_or l (at + i) 0) k n
+    go k zero b = refl
+    go k (suc n) b =
+        let first : drop (at + k) l ≡ get_or l (at + k) 0 ∷ drop (suc (at + k)) l = drop-cons l (at + k) 0 (omega arith) in
+        let next : suc (at + k) ≡ at + suc k = omega arith in
+        ap (take (suc n)) first ∙ ap (λ (q : ℕ). get_or l (at + k) 0 ∷ take n (drop q l)) next ∙ ap (λ (r : List ℕ). get_or l (at + k) 0 ∷ r) (go (suc k) n (omega arith))
 
 -- a list of words that is filled one by one: those that are left, laid from here on, make the whole
 pub record Filling (at : ℕ → ℕ) (n : ℕ) (l : List ℕ) (k : ℕ) : Type 0 where

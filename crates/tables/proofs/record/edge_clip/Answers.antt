@@ -1,4 +1,4 @@
--- `record::edge_clip`: word after word is laid (`Filling`). The measure is how many are left. Assumes nothing.
+-- `record::edge_clip`: word after word is laid (`Filling`). Assumes nothing.
 use borrow.Author.Rules.{rules}
 use mathlib.Core.Path.{refl}
 use Rattle.tables.proofs.Listed.{filling_none, filling_more, filling_end}

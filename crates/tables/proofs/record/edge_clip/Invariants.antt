@@ -1,4 +1,3 @@
-use Prim.Native.Nat.{◌-◌}
 use Rattle.tables.specs.Layout.{clip_words}
 use Rattle.tables.specs.Table.{clip_word}
 use Rattle.tables.proofs.Listed.{Filling}
@@ -6,6 +5,3 @@ use Rattle.tables.proofs.record.edge_clip.Given as goal
 
 abbrev pub invariant-loop-place : goal.invariant-loop-place
 invariant-loop-place l = Filling (clip_word l.words l.clip) clip_words l.values l.place
-
-abbrev pub decreases-loop-place : goal.decreases-loop-place
-decreases-loop-place l = clip_words - l.place

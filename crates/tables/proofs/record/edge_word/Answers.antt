@@ -4,26 +4,27 @@ use Prim.Native.Nat.{◌+◌, ◌*◌, ◌<◌}
 use native.Mathlib.Omega.{arith}
 use lib.ListN.{length, get_or-eq_default}
 use Rattle.tables.proofs.Records.{word_within, word_past}
+use Rattle.tables.proofs.record.edge_word.Given as given
 use Rattle.tables.proofs.record.edge_word.Goals as goal
 use Rattle.tables.proofs.record.edge_word.Goals.{Else-words-place-2}
 
-within : (c : Else-words-place-2) → let a = c.args in a.index * a.width + a.place < length a.words.now
-within c = let a = c.args in word_within a.width (length a.words.now) a.place a.index c.requires (omega arith) c.if-words-place-2.false
+within : (g : given.Over) (c : Else-words-place-2 g) → let a = c.args in a.index * g.row.WIDTH + a.place < length a.words.now
+within g c = let a = c.args in word_within g.row.WIDTH (length a.words.now) a.place a.index c.requires (omega arith) c.if-words-place-2.false
 
 pub returns-then-words-place : goal.returns-then-words-place
-returns-then-words-place c = let a = c.args in sym (get_or-eq_default a.words.now 0 {n = a.index * a.width + a.place} (omega arith))
+returns-then-words-place g c = let a = c.args in sym (get_or-eq_default a.words.now 0 {n = a.index * g.row.WIDTH + a.place} (omega arith))
 
 pub returns-then-words-place-2 : goal.returns-then-words-place-2
-returns-then-words-place-2 c = let a = c.args in sym (get_or-eq_default a.words.now 0 (word_past a.width (length a.words.now) a.place a.index c.requires (omega arith) c.if-words-place-2.true))
+returns-then-words-place-2 g c = let a = c.args in sym (get_or-eq_default a.words.now 0 (word_past g.row.WIDTH (length a.words.now) a.place a.index c.requires (omega arith) c.if-words-place-2.true))
 
 pub overflow_mul-result : goal.overflow_mul-result
-overflow_mul-result c = omega (arith, within (goal.at.overflow_mul-result c).Else-words-place-2)
+overflow_mul-result g c = omega (arith, within g (goal.at.overflow_mul-result g c).Else-words-place-2)
 
 pub overflow_add-result : goal.overflow_add-result
-overflow_add-result c = omega (arith, within (goal.at.overflow_add-result c).Else-words-place-2)
+overflow_add-result g c = omega (arith, within g (goal.at.overflow_add-result g c).Else-words-place-2)
 
 pub offset_bounds-words-index : goal.offset_bounds-words-index
-offset_bounds-words-index c = omega (arith, within (goal.at.offset_bounds-words-index c).Else-words-place-2)
+offset_bounds-words-index g c = omega (arith, within g (goal.at.offset_bounds-words-index g c).Else-words-place-2)
 
 pub bounds-words-index : goal.bounds-words-index
-bounds-words-index c = omega (arith, within (goal.at.bounds-words-index c).Else-words-place-2)
+bounds-words-index g c = omega (arith, within g (goal.at.bounds-words-index g c).Else-words-place-2)

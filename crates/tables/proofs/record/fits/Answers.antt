@@ -3,4 +3,4 @@ use Rattle.tables.proofs.Records.{fits_quotient}
 use Rattle.tables.proofs.record.fits.Goals as goal
 
 pub returns : goal.returns
-returns c = fits_quotient c.args.width c.args.count c.args.words.now c.requires
+returns g c = fits_quotient g.row.WIDTH c.args.count c.args.words.now c.requires
