@@ -1,3 +1,4 @@
 -- what digits write
 pub mod Number
 -- no second answer fits a contract
+pub mod Only

@@ -1,6 +1,6 @@
 -- What each answer of the code says, in the words of the rules. Assumes nothing.
-use Rattle.std.specs.Prelude.{ℕ, Result, Option as Perhaps, None, Some}
-use Rattle.std.proofs.Math.Option.{Option, none, some}
+use Rattle.std.specs.Prelude.{ℕ, Result, Option as Perhaps}
+use Rattle.std.proofs.Math.Option.{Option}
 use Rattle.text.specs.Why.{no_digits}
 use Rattle.text.specs.Nom.{Res, fail, ok}
 use Rattle.text.specs.Util.{Parsed, fits, large, ByteRange, range}

@@ -7,23 +7,23 @@ use Rattle.text.specs.Nom.{bytes, tagged}
 use Rattle.text.specs.BasicTags.{comment_tag}
 use Rattle.text.proofs.Laws.{tagged_within}
 use Rattle.leaves.proofs.basic_tags.comment_tag.Goals as goal
-use Rattle.leaves.proofs.basic_tags.comment_tag.Goals.{Then-starts_with}
+use Rattle.leaves.proofs.basic_tags.comment_tag.Goals.{Else-not-starts_with}
 
 -- the tag is there
-marked : (c : Then-starts_with) → tagged (bytes "#") c.args.text.now c.args.at ≡ true
-marked c = sym c.starts_with.ensures ∙ c.if-starts_with.true
+marked : (c : Else-not-starts_with) → tagged (bytes "#") c.args.text.now c.args.at ≡ true
+marked c = sym c.starts_with.ensures ∙ c.if-not-starts_with.false
 
 pub overflow_add-start : goal.overflow_add-start
-overflow_add-start c = omega (arith, tagged_within _ _ _ (omega arith) (marked (goal.at.overflow_add-start c).Then-starts_with))
+overflow_add-start c = omega (arith, tagged_within _ _ _ (omega arith) (marked (goal.at.overflow_add-start c).Else-not-starts_with))
 
 pub returns-then-text-end : goal.returns-then-text-end
 unfolding comment_tag
-returns-then-text-end c = rw (marked (goal.at.returns-then-text-end c).Then-starts_with, ← c.line_end-end.ensures, le-ltb _ _ c.if-text-end.true)
+returns-then-text-end c = rw (marked (goal.at.returns-then-text-end c).Else-not-starts_with, ← c.line_end-end.ensures, le-ltb _ _ c.if-text-end.true)
 
-pub returns-else-text-end : goal.returns-else-text-end
+pub returns : goal.returns
 unfolding comment_tag
-returns-else-text-end c = rw (marked (goal.at.returns-else-text-end c).Then-starts_with, ← c.line_end-end.ensures, lt-ltb _ _ c.if-text-end.false, ← c.part.ensures)
+returns c = rw (marked (goal.at.returns c).Else-not-starts_with, ← c.line_end-end.ensures, lt-ltb _ _ c.if-text-end.false, ← c.part.ensures)
 
-pub returns-else-starts_with : goal.returns-else-starts_with
+pub returns-then-not-starts_with : goal.returns-then-not-starts_with
 unfolding comment_tag
-returns-else-starts_with c = rw (sym c.starts_with.ensures ∙ c.if-starts_with.false)
+returns-then-not-starts_with c = rw (sym c.starts_with.ensures ∙ c.if-not-starts_with.true)
