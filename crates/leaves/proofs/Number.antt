@@ -14,7 +14,7 @@ use Rattle.text.specs.Nom.{fail, ok, bytes, is_one_of, run, run_end, decimal, is
 use Rattle.text.specs.Util.{parsed, fits, large}
 use Rattle.leaves.specs.Inside.Ends.{pick_parsed}
 use Rattle.leaves.specs.Answers.{parsed_of}
-use Rattle.text.proofs.Laws.{or_false, run_from, run_step, run_stop, run_out, decimal_step, decimal_stop, decimal_out, decimal_le}
+use Rattle.text.proofs.Laws.{or_false, run_from, run_step, run_stop, run_within, run_out, decimal_step, decimal_stop, decimal_out, decimal_le}
 
 -- ---- the three outcomes
 module _ (text : List ℕ) (at : ℕ) where
@@ -77,6 +77,14 @@ counted_zeros text at z e =
       small = omega arith;
     }
 
+-- and they end within the text
+pub zeros_within : (text : List ℕ) (at z : ℕ) → z ≡ run_end is_zero text at → at ≤ length text → z ≤ length text
+zeros_within text at z e h = go (ltb at z) refl
+  where
+    go : (b : Bool) → ltb at z ≡ b → z ≤ length text
+    go true q = let w = ltb-true at z q in omega (arith, e, run_within is_zero text at (omega arith))
+    go false q = omega (arith, ltb-false at z q)
+
 -- ---- one digit more
 module _ (text : List ℕ) (at i v : ℕ) (c : Counted text at i v) where
   pub counted_step : i < length text → is_digit (get_or text i 0) ≡ true → v * 10 + (get_or text i 0 - 48) < 2 ^ 64 → Counted text at (i + 1) (v * 10 + (get_or text i 0 - 48))
@@ -107,6 +115,18 @@ module _ (text : List ℕ) (at i v : ℕ) (c : Counted text at i v) where
 
   pub counted_out : length text ≤ i → parsed_of (pick_parsed (ltb at i) v i) ≡ parsed text at
   counted_out h = ended (run_out is_digit text i h) (decimal_out text v i h)
+
+  -- where the digits go to the text's end; where the text ends before them, there are none
+  pub counted_end : length text ≤ i → (at ≤ length text → i ≤ length text) → parsed_of (pick_parsed (ltb at (length text)) v (length text)) ≡ parsed text at
+  counted_end h b = go (ltb at (length text)) refl
+    where
+      go : (t : Bool) → ltb at (length text) ≡ t → parsed_of (pick_parsed t v (length text)) ≡ parsed text at
+      go true q =
+          let e : i ≡ length text = omega (arith, ltb-true at (length text) q, b) in
+          ap (λ (k : ℕ). parsed_of (pick_parsed true v k)) (sym e)
+          ∙ ap (λ (t : Bool). parsed_of (pick_parsed t v i)) (sym (lt-ltb at i (omega (arith, ltb-true at (length text) q))))
+          ∙ counted_out h
+      go false q = sym (parsed_none text at (run_out is_digit text at (ltb-false at (length text) q)))
 
 -- ---- few digits fit
 pub digits_below : (at i v d : ℕ) → at ≤ i → v < 10 ^ (i - at) → d ≤ 9 → v * 10 + d < 10 ^ (i + 1 - at)

@@ -34,8 +34,6 @@ pub enum Parsed {
 // Up to this value ten times it and any digit fit.
 const SAFE: u64 = 1_844_674_407_370_955_160;
 
-const LARGEST: u64 = 18_446_744_073_709_551_615;
-
 fn digit_value(b: u8) -> u64
     requires { is_digit b ≡ true }
     ensures { (result ≡ b - 48) × (result ≤ 9) }
@@ -58,24 +56,20 @@ fn parsed_to(v: u64, at: usize, end: usize) -> Parsed
 fn long_number(text: &[u8], at: usize) -> Parsed
     ensures { parsed_of result ≡ rule.parsed text.now at }
 {
-    let mut i = blocks::while_one(text, at, b'0');
+    let first = blocks::while_one(text, at, b'0');
     let mut v: u64 = 0;
-    while i < text.len() {
+    for i in first..text.len() {
         let b = text[i];
-        if scan::is_digit(b) {
-            let d = digit_value(b);
-            if SAFE < v {
-                if (LARGEST - d) / 10 < v {
-                    return Parsed::TooLarge(blocks::digits_end(text, i));
-                }
-            }
-            v = v * 10 + d;
-            i += 1;
-        } else {
+        if !scan::is_digit(b) {
             return parsed_to(v, at, i);
         }
+        let d = digit_value(b);
+        if SAFE < v && (u64::MAX - d) / 10 < v {
+            return Parsed::TooLarge(blocks::digits_end(text, i));
+        }
+        v = v * 10 + d;
     }
-    parsed_to(v, at, i)
+    parsed_to(v, at, text.len())
 }
 
 // Numbers of so many digits fit, whatever their digits.
@@ -85,21 +79,18 @@ const FITTING: usize = 19;
 pub fn number(text: &[u8], at: usize) -> Parsed
     ensures { parsed_of result ≡ rule.parsed text.now at }
 {
-    let mut i = at;
     let mut v: u64 = 0;
-    while i < text.len() {
+    for i in at..text.len() {
         let b = text[i];
-        if scan::is_digit(b) {
-            if FITTING <= i - at {
-                return long_number(text, at);
-            }
-            v = v * 10 + digit_value(b);
-            i += 1;
-        } else {
+        if !scan::is_digit(b) {
             return parsed_to(v, at, i);
         }
+        if FITTING <= i - at {
+            return long_number(text, at);
+        }
+        v = v * 10 + digit_value(b);
     }
-    parsed_to(v, at, i)
+    parsed_to(v, at, text.len())
 }
 
 // struct ByteRange { length: u64, offset: Option<u64> }

@@ -3,7 +3,7 @@
 use Prim.Native.Nat.{◌+◌, ◌*◌, ◌-◌, ◌<◌, ◌^◌}
 use mathlib.Core.Path.{◌≡◌, refl, sym, ◌∙◌}
 use native.Mathlib.Omega.{arith}
-use Rattle.leaves.proofs.Number.{counted_step, counted_stop, counted_out, digits_below, fits_below}
+use Rattle.leaves.proofs.Number.{counted_step, counted_stop, counted_end, digits_below, fits_below}
 use Rattle.leaves.proofs.util.number.Goals as goal
 use Rattle.leaves.proofs.util.number.Goals.{Else-i-at-ge-FITTING}
 
@@ -30,7 +30,7 @@ pub overflow_mul-v : goal.overflow_mul-v
 overflow_mul-v c = omega (arith, fits (goal.at.overflow_mul-v c).Else-i-at-ge-FITTING)
 
 pub digit_value-requires : goal.digit_value-requires
-digit_value-requires c = sym c.is_digit.ensures ∙ c.if-is_digit.true
+digit_value-requires c = sym c.is_digit.ensures ∙ c.if-not-is_digit.false
 
 pub overflow_add-v : goal.overflow_add-v
 overflow_add-v c = omega (arith, fits (goal.at.overflow_add-v c).Else-i-at-ge-FITTING, c.digit_value.ensures.1)
@@ -40,12 +40,12 @@ loop-i-preserved c =
     let l = c.loop-i in
     let a = c.args in
     let d = c.digit_value.ensures in (
-      rw d.0 (counted_step _ _ _ _ l.invariant.0 c.loop-i-test.true (sym c.is_digit.ensures ∙ c.if-is_digit.true) (omega (arith, fits (goal.at.loop-i-preserved c).Else-i-at-ge-FITTING, d))),
+      rw d.0 (counted_step _ _ _ _ l.invariant.0 c.loop-i-test.true (sym c.is_digit.ensures ∙ c.if-not-is_digit.false) (omega (arith, fits (goal.at.loop-i-preserved c).Else-i-at-ge-FITTING, d))),
       digits_below a.at l.i l.v _ l.invariant.0.from l.invariant.1 d.1,
     )
 
-pub returns-else-is_digit : goal.returns-else-is_digit
-returns-else-is_digit c = rw c.parsed_to.ensures (counted_stop _ _ _ _ c.loop-i.invariant.0 c.loop-i-test.true (sym c.is_digit.ensures ∙ c.if-is_digit.false))
+pub returns-then-not-is_digit : goal.returns-then-not-is_digit
+returns-then-not-is_digit c = rw c.parsed_to.ensures (counted_stop _ _ _ _ c.loop-i.invariant.0 c.loop-i-test.true (sym c.is_digit.ensures ∙ c.if-not-is_digit.true))
 
 pub returns : goal.returns
-returns c = rw c.parsed_to-2.ensures (counted_out _ _ _ _ c.loop-i.invariant.0 c.loop-i-test.false)
+returns c = rw c.parsed_to-2.ensures (counted_end _ _ _ _ c.loop-i.invariant.0 c.loop-i-test.false c.loop-i.auto.i-end)
