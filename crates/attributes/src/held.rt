@@ -8,13 +8,6 @@ ghost use Rattle.attributes.specs.Answers.{value_of, attr_of};
 use crate::pair::QuotedOrUnquoted;
 use text::Span;
 
-// What a list has under a name.
-#[derive(Clone, Copy)]
-pub enum Attr {
-    Absent,
-    Present(QuotedOrUnquoted),
-}
-
 // The words of an attribute. `specs/Held.antt` has these numbers for the rules.
 pub const ATTR_WORDS: usize = 3;
 
@@ -33,11 +26,7 @@ pub const QUOTED: u64 = 2;
 pub fn clear(held: &mut [u64])
     ensures { held.new ≡ replicate (length held.old) 0 }
 {
-    let mut i = 0;
-    while i < held.len() {
-        held[i] = 0;
-        i += 1;
-    }
+    held.fill(0);
 }
 
 fn put_words(held: &mut [u64], number: usize, kind: u64, value: Span)
@@ -72,7 +61,7 @@ fn word(held: &[u64], number: usize, place: usize) -> u64
 }
 
 // The attribute of the name of this number, absent where there are no words for it.
-pub fn attr_at(held: &[u64], number: usize) -> Attr
+pub fn attr_at(held: &[u64], number: usize) -> Option<QuotedOrUnquoted>
     ensures { attr_of result ≡ rule.attr_at held.now number }
 {
     let value = Span {
@@ -81,10 +70,10 @@ pub fn attr_at(held: &[u64], number: usize) -> Attr
     };
     let kind = word(held, number, KIND);
     if kind == UNQUOTED {
-        return Attr::Present(QuotedOrUnquoted::Unquoted(value));
+        return Some(QuotedOrUnquoted::Unquoted(value));
     }
     if kind == QUOTED {
-        return Attr::Present(QuotedOrUnquoted::Quoted(value));
+        return Some(QuotedOrUnquoted::Quoted(value));
     }
-    Attr::Absent
+    None
 }

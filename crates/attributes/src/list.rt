@@ -7,12 +7,12 @@ ghost use Rattle.attributes.specs.Held.{LastOfEach};
 ghost use Rattle.attributes.specs.Inside.Insert.{inserted_from};
 ghost use Rattle.attributes.specs.Answers.{pair_of, pair_res};
 
-use crate::pair::{Pair, PairRes};
+use crate::pair::Pair;
 use crate::{held, pair};
-use text::Span;
+use text::{IResult, Span};
 
 // The pair here, after spaces and tabs. Where there is none the list has ended.
-pub fn next_pair(text: &[u8], at: usize) -> PairRes
+pub fn next_pair(text: &[u8], at: usize) -> IResult<Pair>
     ensures { pair_res result ≡ rule.next_pair text.now at }
 {
     pair::key_value_pair(text, blocks::while_two(text, at, b' ', b'\t'))
@@ -36,14 +36,12 @@ pub fn insert(text: &[u8], p: Pair, names: &[u8], sizes: &[usize], held: &mut [u
     let name = p.name;
     let value = p.value;
     let mut start = 0;
-    let mut n = 0;
-    while n < sizes.len() {
-        let end = name_end(names, start, sizes[n]);
+    for (n, &size) in sizes.iter().enumerate() {
+        let end = name_end(names, start, size);
         if scan::spells(text, name, &names[start..end]) {
             held::put(held, n, value);
         }
         start = end;
-        n += 1;
     }
 }
 
@@ -61,31 +59,23 @@ pub fn last_of_each(
 {
     held::clear(held);
     let mut from = at;
-    loop {
-        match next_pair(text, from) {
-            PairRes::Ok(p, after) => {
-                insert(text, p, names, sizes, held);
-                from = after;
-            }
-            PairRes::Fail(_) => {
-                return from;
-            }
-        }
+    while let Ok((p, after)) = next_pair(text, from) {
+        insert(text, p, names, sizes, held);
+        from = after;
     }
+    from
 }
 
 fn is_named(text: &[u8], part: Span, names: &[u8], sizes: &[usize]) -> bool
     ensures { result ≡ rule.named text.now (span_of part) (rule.words names.now sizes.now) }
 {
     let mut start = 0;
-    let mut n = 0;
-    while n < sizes.len() {
-        let end = name_end(names, start, sizes[n]);
+    for &size in sizes {
+        let end = name_end(names, start, size);
         if scan::spells(text, part, &names[start..end]) {
             return true;
         }
         start = end;
-        n += 1;
     }
     false
 }
@@ -95,18 +85,11 @@ pub fn has_besides(text: &[u8], at: usize, names: &[u8], sizes: &[usize]) -> boo
     ensures { result ≡ rule.besides text.now (rule.words names.now sizes.now) (items (many0 rule.next_pair text.now at)) }
 {
     let mut from = at;
-    loop {
-        match next_pair(text, from) {
-            PairRes::Ok(p, after) => {
-                if is_named(text, p.name, names, sizes) {
-                    from = after;
-                } else {
-                    return true;
-                }
-            }
-            PairRes::Fail(_) => {
-                return false;
-            }
+    while let Ok((p, after)) = next_pair(text, from) {
+        if !is_named(text, p.name, names, sizes) {
+            return true;
         }
+        from = after;
     }
+    false
 }

@@ -8,7 +8,7 @@ ghost use Rattle.lengths.specs.Answers.{length_seen, length_res, kept, digits_of
 use leaves::util;
 use leaves::util::Parsed;
 use tables::layout::SECOND;
-use text::{Part, Why};
+use text::{IResult, Span, Why};
 
 // 01 allows nine digits on each side of the point: then ns fit, and are exact.
 const SIDE_DIGITS: usize = 9;
@@ -20,12 +20,6 @@ pub enum Length {
     TooManyDigits,
 }
 
-#[derive(Clone, Copy)]
-pub enum LengthRes {
-    Fail(Why),
-    Ok(Length, usize),
-}
-
 // The digits on one side of the point: how many, and what they write. A value that no u64 holds is kept as 0: its digits are too many.
 #[derive(Clone, Copy)]
 struct Digits {
@@ -33,43 +27,31 @@ struct Digits {
     count: usize,
 }
 
-#[derive(Clone, Copy)]
-enum DigitsRes {
-    Fail(Why),
-    Ok(Digits, usize),
-}
-
 // Digits that stand at a place, at least one.
-fn counted(text: &[u8], at: usize) -> DigitsRes
+fn counted(text: &[u8], at: usize) -> IResult<Digits>
     ensures { digits_res result ≡ map kept rule.counted text.now at }
 {
     match util::number(text, at) {
-        Parsed::Value(value, end) => DigitsRes::Ok(
-            Digits {
-                value,
-                count: end - at,
-            },
-            end,
-        ),
-        Parsed::TooLarge(end) => DigitsRes::Ok(
-            Digits {
-                value: 0,
-                count: end - at,
-            },
-            end,
-        ),
-        Parsed::NoDigits => DigitsRes::Fail(Why::NoDigits),
+        Parsed::Value(value, end) => {
+            let count = end - at;
+            Ok((Digits { value, count }, end))
+        }
+        Parsed::TooLarge(end) => {
+            let count = end - at;
+            Ok((Digits { value: 0, count }, end))
+        }
+        Parsed::NoDigits => Err(Why::NoDigits),
     }
 }
 
 // A point, and the digits after it.
-fn fraction(text: &[u8], at: usize) -> DigitsRes
+fn fraction(text: &[u8], at: usize) -> IResult<Digits>
     ensures { digits_res result ≡ map kept (preceded (tag (bytes ".")) rule.counted) text.now at }
 {
     if scan::starts_with(text, at, b".") {
         counted(text, at + 1)
     } else {
-        DigitsRes::Fail(Why::OtherText)
+        Err(Why::OtherText)
     }
 }
 
@@ -107,18 +89,16 @@ fn length_of(left: Digits, right: Digits) -> Length
 }
 
 // Digits, perhaps a point with digits. A point without digits is left standing.
-pub fn float(text: &[u8], at: usize) -> LengthRes
+pub fn float(text: &[u8], at: usize) -> IResult<Length>
     ensures { length_res result ≡ rule.float text.now at }
 {
-    match counted(text, at) {
-        DigitsRes::Ok(left, point) => match fraction(text, point) {
-            DigitsRes::Ok(right, end) => LengthRes::Ok(length_of(left, right), end),
-            DigitsRes::Fail(_) => {
-                let nothing = Digits { value: 0, count: 0 };
-                LengthRes::Ok(length_of(left, nothing), point)
-            }
-        },
-        DigitsRes::Fail(why) => LengthRes::Fail(why),
+    let (left, point) = counted(text, at)?;
+    match fraction(text, point) {
+        Ok((right, end)) => Ok((length_of(left, right), end)),
+        Err(_) => {
+            let nothing = Digits { value: 0, count: 0 };
+            Ok((length_of(left, nothing), point))
+        }
     }
 }
 
@@ -126,43 +106,22 @@ pub fn float(text: &[u8], at: usize) -> LengthRes
 #[derive(Clone, Copy)]
 pub struct Extinf {
     pub duration: Length,
-    pub title: Part,
-}
-
-#[derive(Clone, Copy)]
-pub enum ExtinfRes {
-    Fail(Why),
-    Ok(Extinf, usize),
+    pub title: Option<Span>,
 }
 
 // The byte after the title is taken, whatever it is, and then a comma, which may begin the next line.
-pub fn duration_title_tag(text: &[u8], at: usize) -> ExtinfRes
+pub fn duration_title_tag(text: &[u8], at: usize) -> IResult<Extinf>
     ensures { extinf_res result ≡ rule.duration_title_tag text.now at }
 {
-    match float(text, at) {
-        LengthRes::Ok(duration, end) => {
-            let title = scan::after_tag(text, end, b",");
-            let title_end = blocks::words_until_three(text, title, b'\r', b'\n', b',');
-            if text.len() <= title_end {
-                return ExtinfRes::Fail(Why::MissingByte);
-            }
-            ExtinfRes::Ok(
-                Extinf {
-                    duration,
-                    title: scan::part(title, title_end),
-                },
-                scan::after_tag(text, title_end + 1, b","),
-            )
-        }
-        LengthRes::Fail(why) => ExtinfRes::Fail(why),
+    let (duration, end) = float(text, at)?;
+    let title = scan::after_tag(text, end, b",");
+    let title_end = blocks::words_until_three(text, title, b'\r', b'\n', b',');
+    if text.len() <= title_end {
+        return Err(Why::MissingByte);
     }
-}
-
-// An EXTINF without its values: whether its length has too many digits, and the place after it. A pass that only counts needs no more.
-#[derive(Clone, Copy)]
-pub enum ExtinfEnd {
-    Fail,
-    Ok(bool, usize),
+    let title = scan::part(title, title_end);
+    let after = scan::after_tag(text, title_end + 1, b",");
+    Ok((Extinf { duration, title }, after))
 }
 
 // Past a point with digits. A point without digits is left standing.
@@ -178,20 +137,20 @@ fn fraction_end(text: &[u8], at: usize) -> usize
     at
 }
 
-// What `duration_title_tag` takes, without the values.
-pub fn extinf_end(text: &[u8], at: usize) -> ExtinfEnd
+// What `duration_title_tag` takes, without the values: whether the length has too many digits, and the place after it. A pass that only counts needs no more.
+pub fn extinf_end(text: &[u8], at: usize) -> Option<(bool, usize)>
     ensures { extinf_end result ≡ end_of (rule.duration_title_tag text.now at) }
 {
     let point = scan::digits_end(text, at);
     if point <= at {
-        return ExtinfEnd::Fail;
+        return None;
     }
     let end = fraction_end(text, point);
     let too_many = (SIDE_DIGITS < point - at) | (SIDE_DIGITS + 1 < end - point);
     let title = scan::after_tag(text, end, b",");
     let title_end = blocks::words_until_three(text, title, b'\r', b'\n', b',');
     if text.len() <= title_end {
-        return ExtinfEnd::Fail;
+        return None;
     }
-    ExtinfEnd::Ok(too_many, scan::after_tag(text, title_end + 1, b","))
+    Some((too_many, scan::after_tag(text, title_end + 1, b",")))
 }

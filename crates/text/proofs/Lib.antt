@@ -26,3 +26,5 @@ pub mod LinesExample
 pub mod Line
 -- no second answer fits a contract
 pub mod Only
+-- a `?` that stops
+pub mod Tried

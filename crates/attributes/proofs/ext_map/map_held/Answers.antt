@@ -7,7 +7,7 @@ pub returns-in_default : goal.returns-in_default
 returns-in_default c = rw (sym c.attr_at-uri.ensures ∙ ap attr_of c.in_default.is)
 
 pub returns-in_default-value : goal.returns-in_default-value
-returns-in_default-value c = rw (sym c.attr_at-uri.ensures ∙ ap attr_of c.in-Present.is, ap value_of c.in_default-value.is)
+returns-in_default-value c = rw (sym c.attr_at-uri.ensures ∙ ap attr_of c.in-Some.is, ap value_of c.in_default-value.is)
 
 pub returns : goal.returns
-returns c = rw (sym c.attr_at-uri.ensures ∙ ap attr_of c.in-Present.is, ap value_of c.in-Quoted.is, ← c.attr_at-range.ensures) c.with_range.ensures
+returns c = rw (sym c.attr_at-uri.ensures ∙ ap attr_of c.in-Some.is, ap value_of c.in-Quoted.is, ← c.attr_at-range.ensures) c.with_range.ensures

@@ -8,14 +8,14 @@ pub returns-in_default : goal.returns-in_default
 returns-in_default c = rw (ap attr_of c.in_default.is) c.map_of.ensures
 
 pub returns-in_default-value : goal.returns-in_default-value
-returns-in_default-value c = rw (ap attr_of c.in-Present.is, ap value_of c.in_default-value.is)
+returns-in_default-value c = rw (ap attr_of c.in-Some.is, ap value_of c.in_default-value.is)
 
 pub returns-in-Ok : goal.returns-in-Ok
 returns-in-Ok c =
     let read = sym c.byte_range_val.ensures ∙ ap byte_range_res c.in-Ok.is in
-    rw (ap attr_of c.in-Present.is, ap value_of c.in-Quoted.is, read) c.map_of-in-Ok.ensures
+    rw (ap attr_of c.in-Some.is, ap value_of c.in-Quoted.is, read) c.map_of-in-Ok.ensures
 
-pub returns-in-Fail : goal.returns-in-Fail
-returns-in-Fail c =
-    let read = sym c.byte_range_val.ensures ∙ ap byte_range_res c.in-Fail.is in
-    rw (ap attr_of c.in-Present.is, ap value_of c.in-Quoted.is, read)
+pub returns-in-Err : goal.returns-in-Err
+returns-in-Err c =
+    let read = sym c.byte_range_val.ensures ∙ ap byte_range_res c.in-Err.is in
+    rw (ap attr_of c.in-Some.is, ap value_of c.in-Quoted.is, read)

@@ -19,10 +19,10 @@ pub loop-p-smaller : goal.loop-p-smaller
 loop-p-smaller c = pairs_fall _ _ _ _ (read (goal.at.loop-p-smaller c).In-Ok)
 
 pub loop-p-preserved : goal.loop-p-preserved
-loop-p-preserved c = c.loop-p.invariant ∙ others_step _ _ _ _ _ _ (read (goal.at.loop-p-preserved c).In-Ok) (sym c.is_named.ensures ∙ c.if-is_named.true)
+loop-p-preserved c = c.loop-p.invariant ∙ others_step _ _ _ _ _ _ (read (goal.at.loop-p-preserved c).In-Ok) (sym c.is_named.ensures ∙ c.if-not-is_named.false)
 
-pub returns-else-is_named : goal.returns-else-is_named
-returns-else-is_named c = sym (c.loop-p.invariant ∙ others_found _ _ _ _ _ _ (read (goal.at.returns-else-is_named c).In-Ok) (sym c.is_named.ensures ∙ c.if-is_named.false))
+pub returns-then-not-is_named : goal.returns-then-not-is_named
+returns-then-not-is_named c = sym (c.loop-p.invariant ∙ others_found _ _ _ _ _ _ (read (goal.at.returns-then-not-is_named c).In-Ok) (sym c.is_named.ensures ∙ c.if-not-is_named.true))
 
-pub returns-in-Fail : goal.returns-in-Fail
-returns-in-Fail c = sym (c.loop-p.invariant ∙ others_stop _ _ _ _ (sym c.next_pair.ensures ∙ ap pair_res c.in-Fail.is))
+pub returns : goal.returns
+returns c = sym (c.loop-p.invariant ∙ others_stop _ _ _ _ (sym c.next_pair.ensures ∙ ap pair_res c.in_default.is))

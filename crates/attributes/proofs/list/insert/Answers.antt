@@ -45,20 +45,22 @@ done : (c : Joined-spells) →
     (inserted_from text (pair_of a.p) c.loop-n.n (words (drop c.loop-n.start names) (drop c.loop-n.n a.sizes.now)) c.loop-n.held
     ≡ inserted_from text (pair_of a.p) (c.loop-n.n + 1) (words (drop c.name_end-end.result names) (drop (c.loop-n.n + 1) a.sizes.now)) c.if-spells.held)
     × (length c.if-spells.held ≡ length c.loop-n.held)
+    × (c.if-spells.start ≡ c.name_end-end.result)
 done c =
     let next = words_next _ _ _ _ c.name_end-end.ensures _ _ c.loop-n-test.true refl in
     elim c.if-spells.branch [
       | then-spells w ↦
           let now-held = w.held-is ∙ w.put.ensures in
-          (inserted_here _ _ _ _ _ _ _ _ next (sym c.spells.ensures ∙ w.if-spells.true) ∙ ap (inserted_from _ _ _ _) (sym now-held), ap length now-held ∙ stored_length _ _ _)
+          (inserted_here _ _ _ _ _ _ _ _ next (sym c.spells.ensures ∙ w.if-spells.true) ∙ ap (inserted_from _ _ _ _) (sym now-held), ap length now-held ∙ stored_length _ _ _, w.start-is)
       | else-spells w ↦
-          (inserted_on _ _ _ _ _ _ _ _ next (sym c.spells.ensures ∙ w.if-spells.false) ∙ ap (inserted_from _ _ _ _) (sym w.held-is), ap length w.held-is)
+          (inserted_on _ _ _ _ _ _ _ _ next (sym c.spells.ensures ∙ w.if-spells.false) ∙ ap (inserted_from _ _ _ _) (sym w.held-is), ap length w.held-is, w.start-is)
     ]
 
 pub loop-n-preserved : goal.loop-n-preserved
 loop-n-preserved c =
     let i = c.loop-n.invariant in
-    (i.0 ∙ (done (goal.at.loop-n-preserved c).Joined-spells).0, (ends (goal.at.loop-n-preserved c).After-name_end-end).1, (done (goal.at.loop-n-preserved c).Joined-spells).1 ∙ i.2)
+    let d = done (goal.at.loop-n-preserved c).Joined-spells in
+    rw d.2 (i.0 ∙ d.0, (ends (goal.at.loop-n-preserved c).After-name_end-end).1, d.1 ∙ i.2)
 
 pub shape_of-held : goal.shape_of-held
 shape_of-held c = c.loop-n.invariant.2

@@ -1,4 +1,4 @@
-use Prim.Native.Nat.{◌-◌, ◌≤◌}
+use Prim.Native.Nat.{◌≤◌}
 use mathlib.Core.Path.{◌≡◌}
 use lib.ListN.{length, drop}
 use Rattle.text.specs.Answers.{span_of}
@@ -13,6 +13,3 @@ invariant-loop-n l =
     (inserted_from l.text p 0 (words l.names l.sizes) l.initial.held ≡ inserted_from l.text p l.n (words (drop l.start l.names) (drop l.n l.sizes)) l.held)
     × (l.start ≤ length l.names)
     × (length l.held ≡ length l.initial.held)
-
-abbrev pub decreases-loop-n : goal.decreases-loop-n
-decreases-loop-n l = length l.sizes - l.n

@@ -7,7 +7,7 @@ use Rattle.attributes.specs.Answers.{pair_of, pair_res}
 use Rattle.attributes.proofs.Laid.{laid_length}
 use Rattle.attributes.proofs.Walk.{pairs_fall, ends_stop, ends_step, held_from, held_stop, held_step, held_all}
 use Rattle.attributes.proofs.list.last_of_each.Goals as goal
-use Rattle.attributes.proofs.list.last_of_each.Goals.{In-Fail, In-Ok}
+use Rattle.attributes.proofs.list.last_of_each.Goals.{In_default, In-Ok}
 
 pub loop-p-init : goal.loop-p-init
 loop-p-init c = (refl, refl)
@@ -26,15 +26,15 @@ loop-p-preserved c =
     let l = c.loop-p in
     (l.invariant.0 ∙ ends_step _ _ _ _ (read (goal.at.loop-p-preserved c).In-Ok), l.invariant.1 ∙ held_step _ _ _ _ _ _ _ (read (goal.at.loop-p-preserved c).In-Ok) c.insert.ensures)
 
-pub returns-in-Fail : goal.returns-in-Fail
-returns-in-Fail c =
+pub returns : goal.returns
+returns c =
     let l = c.loop-p in
     let k = c.clear in
-    let f = sym c.next_pair.ensures ∙ ap pair_res c.in-Fail.is in
+    let f = sym c.next_pair.ensures ∙ ap pair_res c.in_default.is in
     record {
       ends = sym (l.invariant.0 ∙ ends_stop _ _ _ f);
       holds = sym (l.invariant.1 ∙ held_stop _ _ _ _ _ f) ∙ ap (held_from _ _ _) k.ensures ∙ held_all _ _ _ _;
     }
 
-pub shape_of-held-in-Fail : goal.shape_of-held-in-Fail
-shape_of-held-in-Fail c = ap length (returns-in-Fail c).holds ∙ laid_length _ _
+pub shape_of-held : goal.shape_of-held
+shape_of-held c = ap length (returns c).holds ∙ laid_length _ _

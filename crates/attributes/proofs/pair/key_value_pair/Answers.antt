@@ -2,9 +2,10 @@
 use mathlib.Core.Path.{sym, ◌∙◌, ap, ◌≡◌}
 use borrow.Author.Tests.{lt-ltb, le-ltb}
 use Rattle.attributes.specs.Pairs.{key_value_pair, pair, quoted, unquoted}
-use Rattle.attributes.specs.Answers.{value_res}
+use Rattle.attributes.specs.Answers.{pair_res}
 use Rattle.attributes.proofs.Name.{pair_named}
 use Prim.Native.Nat.{◌+◌}
+use Rattle.text.proofs.Tried.{handed_on}
 use Rattle.text.specs.Nom.{ok, span, bytes, after_tag, bind, alt}
 use Rattle.attributes.proofs.pair.key_value_pair.Goals as goal
 use Rattle.attributes.proofs.pair.key_value_pair.Goals.{Else-text-name_end}
@@ -28,8 +29,8 @@ at_value : (c : Else-text-name_end) →
     key_value_pair a.text.now a.at ≡ bind (alt quoted unquoted a.text.now (e + 1)) (λ right n. ok (pair (span a.at e) right) (after_tag (bytes ",") a.text.now n))
 at_value c = pair_named _ _ _ c.if-text-at.false (sym c.is_one_of.ensures ∙ c.if-is_one_of.false) c.until_one-name_end.ensures c.if-text-name_end.false
 
-pub returns-in-Ok : goal.returns-in-Ok
-returns-in-Ok c = rw (at_value (goal.at.returns-in-Ok c).Else-text-name_end, sym c.read_value.ensures ∙ ap value_res c.in-Ok.is, ← c.after_tag.ensures)
+pub returns : goal.returns
+returns c = rw (at_value (goal.at.returns c).Else-text-name_end, sym (c.in_ok-value.ensures), ← c.after_tag.ensures)
 
-pub returns-in-Fail : goal.returns-in-Fail
-returns-in-Fail c = rw (at_value (goal.at.returns-in-Fail c).Else-text-name_end, sym c.read_value.ensures ∙ ap value_res c.in-Fail.is)
+pub returns-in_err-value : goal.returns-in_err-value
+returns-in_err-value c = ap pair_res (handed_on _ _ c.from_residual.ensures.1) ∙ rw (at_value (goal.at.returns-in_err-value c).Else-text-name_end, sym (c.in_err-value.ensures))

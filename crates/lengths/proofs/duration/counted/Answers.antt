@@ -13,15 +13,15 @@ use Rattle.lengths.proofs.duration.counted.Goals.{In-TooLarge, In-Value}
 value : (c : In-Value) → (let a = c.args in parsed a.text.now a.at ≡ ok (fits c.in-Value.value) c.in-Value.end)
 value c = sym c.number.ensures ∙ ap parsed_of c.in-Value.is
 
-pub overflow_sub-result : goal.overflow_sub-result
-overflow_sub-result c = omega (arith, (takes_parsed _ _ _ _ (value (goal.at.overflow_sub-result c).In-Value)).0)
+pub overflow_sub-count : goal.overflow_sub-count
+overflow_sub-count c = omega (arith, (takes_parsed _ _ _ _ (value (goal.at.overflow_sub-count c).In-Value)).0)
 
 -- it does not
 too_large : (c : In-TooLarge) → (let a = c.args in parsed a.text.now a.at ≡ ok large c.in-TooLarge.end)
 too_large c = sym c.number.ensures ∙ ap parsed_of c.in-TooLarge.is
 
-pub overflow_sub-result-in-TooLarge : goal.overflow_sub-result-in-TooLarge
-overflow_sub-result-in-TooLarge c = omega (arith, (takes_parsed _ _ _ _ (too_large (goal.at.overflow_sub-result-in-TooLarge c).In-TooLarge)).0)
+pub overflow_sub-count-in-TooLarge : goal.overflow_sub-count-in-TooLarge
+overflow_sub-count-in-TooLarge c = omega (arith, (takes_parsed _ _ _ _ (too_large (goal.at.overflow_sub-count-in-TooLarge c).In-TooLarge)).0)
 
 pub returns-in-Value : goal.returns-in-Value
 returns-in-Value c = rw (counted_parsed, value (goal.at.returns-in-Value c).In-Value)
