@@ -6,9 +6,8 @@ ghost use Rattle.attributes.specs.Answers.{pair_of, attr_of};
 ghost use Rattle.chains.specs.Inside.Answers.{chain_seen, memory_seen};
 
 use crate::kept::{Chain, Memory};
-use attributes::held::Attr;
 use attributes::list;
-use attributes::pair::{Pair, PairRes};
+use attributes::pair::Pair;
 use text::Span;
 
 // From the place `from` of a chain that ends at `end` to its first place that is not before `to`, or to its last. The end is asked for first: the pair that
@@ -21,14 +20,10 @@ pub(crate) fn advance(text: &[u8], from: usize, end: usize, to: usize) -> usize
         if place == end {
             return place;
         }
-        match list::next_pair(text, place) {
-            PairRes::Ok(_, after) => {
-                place = after;
-            }
-            PairRes::Fail(_) => {
-                return place;
-            }
-        }
+        let Ok((_, after)) = list::next_pair(text, place) else {
+            return place;
+        };
+        place = after;
     }
     place
 }
@@ -40,7 +35,7 @@ pub(crate) fn nothing() -> Chain
     let name = Span { start: 0, end: 0 };
     Chain {
         name,
-        value: Attr::Absent,
+        value: None,
         next: 0,
         end: 0,
     }
@@ -61,17 +56,12 @@ pub(crate) fn forward(text: &[u8], c: Chain, to: usize) -> Chain
         if next == end {
             return nothing();
         }
-        match list::next_pair(text, next) {
-            PairRes::Ok(p, after) => {
-                name = p.name;
-                let v = p.value;
-                value = Attr::Present(v);
-                next = after;
-            }
-            PairRes::Fail(_) => {
-                return nothing();
-            }
-        }
+        let Ok((p, after)) = list::next_pair(text, next) else {
+            return nothing();
+        };
+        name = p.name;
+        value = Some(p.value);
+        next = after;
     }
     Chain {
         name,
@@ -85,38 +75,26 @@ pub(crate) fn forward(text: &[u8], c: Chain, to: usize) -> Chain
 pub(crate) fn forward_all(text: &[u8], m: Memory, to: usize) -> Memory
     ensures { rule.ForwardAll text.now (memory_seen m) (memory_seen result) }
 {
-    let first = m.first;
-    let second = m.second;
-    let fails = m.fails;
-    let first = forward(text, first, to);
-    let second = forward(text, second, to);
     Memory {
-        first,
-        second,
-        fails,
+        first: forward(text, m.first, to),
+        second: forward(text, m.second, to),
+        fails: m.fails,
     }
 }
 
 pub(crate) fn is_kept(c: Chain) -> bool
     ensures { result ≡ rule.present (attr_of c.value) }
 {
-    let value = c.value;
-    match value {
-        Attr::Present(_) => true,
-        Attr::Absent => false,
-    }
+    c.value.is_some()
 }
 
 // The chain of a list that begins with this pair.
 pub(crate) fn begun(p: Pair, next: usize, end: usize) -> Chain
     ensures { chain_seen result ≡ rule.begun (pair_of p) next end }
 {
-    let v = p.value;
-    let name = p.name;
-    let value = Attr::Present(v);
     Chain {
-        name,
-        value,
+        name: p.name,
+        value: Some(p.value),
         next,
         end,
     }

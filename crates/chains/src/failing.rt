@@ -7,13 +7,13 @@ ghost use Rattle.chains.specs.Inside.Answers.{failing_seen, PairOk, NotesAs, Tri
 
 use crate::kept::Failing;
 use attributes::pair;
-use attributes::pair::PairRes;
-use text::{Span, Why};
+use attributes::pair::Pair;
+use text::{IResult, Span, Why};
 
 // A pair or none, and the names that are known then to make none.
 #[derive(Clone, Copy)]
 pub struct Tried {
-    pub pair: PairRes,
+    pub pair: IResult<Pair>,
     pub fails: Failing,
 }
 
@@ -65,31 +65,23 @@ pub(crate) fn pair_at(text: &[u8], at: usize, f: Failing) -> Tried
     let none = f.none;
     if is_silent(dead, at) {
         return Tried {
-            pair: PairRes::Fail(Why::OtherText),
+            pair: Err(Why::OtherText),
             fails: f,
         };
     }
     if is_silent(none, at) {
         return Tried {
-            pair: PairRes::Fail(Why::OtherText),
+            pair: Err(Why::OtherText),
             fails: f,
         };
     }
     let found = pair::key_value_pair(text, at);
-    match found {
-        PairRes::Ok(_, _) => Tried {
-            pair: found,
-            fails: f,
-        },
-        PairRes::Fail(_) => {
-            if begins_name(text, at) {
-                let fails = noted(text, f, at);
-                return Tried { pair: found, fails };
-            }
-            Tried {
-                pair: found,
-                fails: f,
-            }
-        }
+    if found.is_err() && begins_name(text, at) {
+        let fails = noted(text, f, at);
+        return Tried { pair: found, fails };
+    }
+    Tried {
+        pair: found,
+        fails: f,
     }
 }

@@ -7,7 +7,6 @@ ghost use Rattle.chains.specs.Inside.Kept as rule;
 ghost use Rattle.chains.specs.Inside.Answers.{memory_seen};
 
 use attributes::held;
-use attributes::held::Attr;
 use attributes::pair::QuotedOrUnquoted;
 use text::Span;
 
@@ -15,7 +14,7 @@ use text::Span;
 #[derive(Clone, Copy)]
 pub struct Chain {
     pub name: Span,
-    pub value: Attr,
+    pub value: Option<QuotedOrUnquoted>,
     pub next: usize,
     pub end: usize,
 }
@@ -46,26 +45,24 @@ struct ValueWords {
 }
 
 // As `held` lays them.
-fn value_words(value: Attr) -> ValueWords
+fn value_words(value: Option<QuotedOrUnquoted>) -> ValueWords
     ensures { result.kind ∷ result.start ∷ result.end ∷ [] ≡ words_of (attr_of value) }
 {
     match value {
-        Attr::Absent => ValueWords {
+        None => ValueWords {
             kind: 0,
             start: 0,
             end: 0,
         },
-        Attr::Present(v) => match v {
-            QuotedOrUnquoted::Unquoted(s) => ValueWords {
-                kind: held::UNQUOTED,
-                start: s.start as u64,
-                end: s.end as u64,
-            },
-            QuotedOrUnquoted::Quoted(s) => ValueWords {
-                kind: held::QUOTED,
-                start: s.start as u64,
-                end: s.end as u64,
-            },
+        Some(QuotedOrUnquoted::Unquoted(s)) => ValueWords {
+            kind: held::UNQUOTED,
+            start: s.start as u64,
+            end: s.end as u64,
+        },
+        Some(QuotedOrUnquoted::Quoted(s)) => ValueWords {
+            kind: held::QUOTED,
+            start: s.start as u64,
+            end: s.end as u64,
         },
     }
 }
@@ -111,11 +108,7 @@ pub(crate) fn lay(memory: &mut [u64], at: usize, words: &[u64])
     requires { at + length words.now ≤ length memory.old }
     ensures { memory.new ≡ sets memory.old at words.now }
 {
-    let mut k: usize = 0;
-    while k < words.len() {
-        memory[at + k] = words[k];
-        k += 1;
-    }
+    memory[at..at + words.len()].copy_from_slice(words);
 }
 
 pub(crate) fn save(memory: &mut [u64], m: Memory)

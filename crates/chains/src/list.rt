@@ -11,8 +11,8 @@ ghost use Rattle.chains.specs.Inside.Answers.{chain_seen, failing_seen, memory_s
 
 use crate::kept::{Chain, Failing, Memory, PLACE_WORDS};
 use crate::{chain, failing, kept};
-use attributes::held::{ATTR_WORDS, Attr};
-use attributes::pair::{Pair, PairRes, QuotedOrUnquoted};
+use attributes::held::ATTR_WORDS;
+use attributes::pair::{Pair, QuotedOrUnquoted};
 use attributes::{held, list};
 use text::Span;
 
@@ -29,8 +29,7 @@ fn value_start(value: QuotedOrUnquoted) -> usize
 fn hold_one(kept: &[u64], from: usize, number: usize, held: &mut [u64])
     ensures { held.new ≡ rule.overlaid (rule.later from (attr_at kept.now number) ∷ []) number held.old }
 {
-    let found = held::attr_at(kept, number);
-    let Attr::Present(value) = found else {
+    let Some(value) = held::attr_at(kept, number) else {
         return;
     };
     if from < value_start(value) {
@@ -42,10 +41,8 @@ fn hold_one(kept: &[u64], from: usize, number: usize, held: &mut [u64])
 fn hold_later(kept: &[u64], from: usize, held: &mut [u64])
     ensures { held.new ≡ rule.overlaid (listed (λ n. rule.later from (attr_at kept.now n)) 0 (length held.old / attr_words)) 0 held.old }
 {
-    let mut n = 0;
-    while n < held.len() / ATTR_WORDS {
+    for n in 0..held.len() / ATTR_WORDS {
         hold_one(kept, from, n, held);
-        n += 1;
     }
 }
 
@@ -84,18 +81,12 @@ fn walk(
             };
         }
         let tried = failing::pair_at(text, blocks::while_two(text, from, b' ', b'\t'), fails);
-        let found = tried.pair;
-        let next = tried.fails;
-        fails = next;
-        match found {
-            PairRes::Ok(p, after) => {
-                list::insert(text, p, names, sizes, held);
-                from = after;
-            }
-            PairRes::Fail(_) => {
-                return Walked { end: from, fails };
-            }
-        }
+        fails = tried.fails;
+        let Ok((p, after)) = tried.pair else {
+            return Walked { end: from, fails };
+        };
+        list::insert(text, p, names, sizes, held);
+        from = after;
     }
 }
 
@@ -124,8 +115,7 @@ fn joined(
 ) -> usize
     ensures { JoinsAs text.now (words names.now sizes.now) name (chain_seen c) kept.now held.old held.new result }
 {
-    let value = c.value;
-    let Attr::Present(value) = value else {
+    let Some(value) = c.value else {
         return name;
     };
     let other = c.name;
@@ -252,20 +242,17 @@ fn begun(
     let second = m.second;
     let fails = m.fails;
     let tried = failing::pair_at(text, blocks::while_two(text, at, b' ', b'\t'), fails);
-    let found = tried.pair;
     let fails = tried.fails;
     let m = Memory {
         first,
         second,
         fails,
     };
-    match found {
-        PairRes::Fail(_) => {
-            kept::save(memory, m);
-            at
-        }
-        PairRes::Ok(p, after) => begun_with(text, p, after, names, sizes, held, memory, m),
-    }
+    let Ok((p, after)) = tried.pair else {
+        kept::save(memory, m);
+        return at;
+    };
+    begun_with(text, p, after, names, sizes, held, memory, m)
 }
 
 // The list whose first name begins here, where it joins the first chain; what is kept is saved.

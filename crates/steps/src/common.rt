@@ -6,8 +6,8 @@ ghost use Rattle.steps.specs.Inside.Answers.{kind_of, common_of, common_end_of};
 
 use leaves::util;
 use lengths::duration;
-use lengths::duration::{Extinf, ExtinfEnd, ExtinfRes};
-use text::{Span, SpanRes};
+use lengths::duration::Extinf;
+use text::Span;
 
 // A line with its value, and the place after it.
 #[derive(Clone, Copy)]
@@ -56,12 +56,12 @@ pub fn common_line(text: &[u8], at: usize) -> Line
 {
     match kind_at(text, at) {
         Kind::Uri => match util::consume_line(text, at) {
-            SpanRes::Ok(line, after) => Line::Uri(line, after),
-            SpanRes::Fail(_) => Line::Other,
+            Ok((line, after)) => Line::Uri(line, after),
+            Err(_) => Line::Other,
         },
         Kind::Extinf => match duration::duration_title_tag(text, at + EXTINF) {
-            ExtinfRes::Ok(e, after) => Line::Extinf(e, after),
-            ExtinfRes::Fail(_) => Line::Other,
+            Ok((e, after)) => Line::Extinf(e, after),
+            Err(_) => Line::Other,
         },
         Kind::Other => Line::Other,
     }
@@ -72,12 +72,12 @@ pub fn common_end(text: &[u8], at: usize) -> LineEnd
 {
     match kind_at(text, at) {
         Kind::Uri => match util::consume_line(text, at) {
-            SpanRes::Ok(_, after) => LineEnd::Uri(after),
-            SpanRes::Fail(_) => LineEnd::Other,
+            Ok((_, after)) => LineEnd::Uri(after),
+            Err(_) => LineEnd::Other,
         },
         Kind::Extinf => match duration::extinf_end(text, at + EXTINF) {
-            ExtinfEnd::Ok(too_many, after) => LineEnd::Extinf(too_many, after),
-            ExtinfEnd::Fail => LineEnd::Other,
+            Some((too_many, after)) => LineEnd::Extinf(too_many, after),
+            None => LineEnd::Other,
         },
         Kind::Other => LineEnd::Other,
     }

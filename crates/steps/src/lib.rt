@@ -9,35 +9,27 @@ ghost use Rattle.chains.specs.Inside.Kept.{Remembering};
 ghost use Rattle.tags.specs.Tags as rule;
 ghost use Rattle.tags.specs.Answers.{tag_res};
 
-use tags::TagRes;
-use text::Why;
+use tags::Tag;
+use text::{IResult, Why};
 
 pub mod other; // unknown tags, comments, URIs
 pub mod common; // what most lines are, taken at once
 
-pub fn media_segment_tag(text: &[u8], at: usize, memory: &mut [u64]) -> TagRes
+pub fn media_segment_tag(text: &[u8], at: usize, memory: &mut [u64]) -> IResult<Tag>
     ensures { Remembering text.now memory.old memory.new (tag_res result ≡ rule.media_segment_tag text.now at) }
 {
-    let of_clip = clip_tags::segment_tag(text, at, memory);
-    match of_clip {
-        TagRes::Ok(_, _) => of_clip,
-        TagRes::Fail(_) => other::other_tag(text, at),
-    }
+    clip_tags::segment_tag(text, at, memory).or_else(|_| other::other_tag(text, at))
 }
 
 // A line that does not begin with `#` is a URI.
-pub fn media_playlist_tag(text: &[u8], at: usize, memory: &mut [u64]) -> TagRes
+pub fn media_playlist_tag(text: &[u8], at: usize, memory: &mut [u64]) -> IResult<Tag>
     ensures { Remembering text.now memory.old memory.new (tag_res result ≡ rule.media_playlist_tag text.now at) }
 {
     if text.len() <= at {
-        return TagRes::Fail(Why::MissingByte);
+        return Err(Why::MissingByte);
     }
     if text[at] != b'#' {
         return other::uri_line(text, at);
     }
-    let of_head = head_tags::playlist_tag(text, at);
-    match of_head {
-        TagRes::Ok(_, _) => of_head,
-        TagRes::Fail(_) => media_segment_tag(text, at, memory),
-    }
+    head_tags::playlist_tag(text, at).or_else(|_| media_segment_tag(text, at, memory))
 }

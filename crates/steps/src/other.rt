@@ -3,30 +3,25 @@ ghost use Rattle.std.specs.Prelude.{◌≡◌};
 ghost use Rattle.tags.specs.Tags as rule;
 ghost use Rattle.tags.specs.Answers.{tag_res};
 
-use leaves::basic_tags::ExtTagRes;
 use leaves::{basic_tags, util};
-use tags::{Tag, TagRes};
-use text::{PartRes, SpanRes};
+use tags::Tag;
+use text::IResult;
 
-pub fn uri_line(text: &[u8], at: usize) -> TagRes
+pub fn uri_line(text: &[u8], at: usize) -> IResult<Tag>
     ensures { tag_res result ≡ rule.uri_line text.now at }
 {
-    match util::consume_line(text, at) {
-        SpanRes::Ok(line, after) => return TagRes::Ok(Tag::Uri(line), after),
-        SpanRes::Fail(why) => return TagRes::Fail(why),
-    }
+    let (line, after) = util::consume_line(text, at)?;
+    Ok((Tag::Uri(line), after))
 }
 
-pub fn other_tag(text: &[u8], at: usize) -> TagRes
+pub fn other_tag(text: &[u8], at: usize) -> IResult<Tag>
     ensures { tag_res result ≡ rule.other_tag text.now at }
 {
-    match basic_tags::ext_tag(text, at) {
-        ExtTagRes::Ok(t, after) => return TagRes::Ok(Tag::Unknown(t), after),
-        ExtTagRes::Fail(_) => {}
+    if let Ok((t, after)) = basic_tags::ext_tag(text, at) {
+        return Ok((Tag::Unknown(t), after));
     }
-    match basic_tags::comment_tag(text, at) {
-        PartRes::Ok(t, after) => return TagRes::Ok(Tag::Comment(t), after),
-        PartRes::Fail(_) => {}
+    if let Ok((t, after)) = basic_tags::comment_tag(text, at) {
+        return Ok((Tag::Comment(t), after));
     }
     uri_line(text, at)
 }

@@ -1,7 +1,7 @@
 -- No second answer meets a contract: from what an answer says there is a way back to it, as in text's `Only`. Assumes nothing.
 use mathlib.Core.Path.{◌≡◌, refl, ap}
 use Rattle.text.specs.Nom.{Res, fail, ok}
-use Rattle.text.proofs.Only.{Only, only_by, why_back, why_back_lem, span_back, part_back, part_back_lem}
+use Rattle.text.proofs.Only.{Only, only_by, res_only, span_back, part_back, part_back_lem}
 use Rattle.leaves.proofs.Only.{byte_range_back, byte_range_back_lem, ext_tag_back, ext_tag_back_lem, type_back, type_back_lem}
 use Rattle.attributes.proofs.Only.{map_back_lem, map_back}
 use Rattle.lengths.proofs.Only.{extinf_back, extinf_back_lem}
@@ -13,8 +13,6 @@ use Rattle.tags.specs.declared.LeftOut as leftᵈ
 use Rattle.tags.specs.declared.LeftOut.TheVariants as leftᵛ
 use Rattle.tags.specs.declared.Tag as tagᵈ
 use Rattle.tags.specs.declared.Tag.TheVariants as tagᵛ
-use Rattle.tags.specs.declared.TagRes.{TagRes}
-use Rattle.tags.specs.declared.TagRes.TheVariants as tagResᵛ
 use Rattle.tags.specs.Tags.{HeadTag, version, target_duration, media_sequence, discontinuity_sequence, typed, i_frames_only, independent_segments, end_list, ClipTag, timed, ranged, discontinuity, mapped, LeftOut, start, key, program_date_time, date_range, Tag, of_head, of_clip, unknown, comment, uri, left_out}
 use Rattle.tags.specs.Answers.{head_tag_of, clip_tag_of, left_out_of, tag_of, tag_res}
 
@@ -87,13 +85,5 @@ tag_back (tagᵛ.LeftOut t) = ap tagᵛ.LeftOut (left_out_back_lem t)
 pub tag_only : Only tag_of
 tag_only = only_by tag_of tag_back_lem tag_back
 
-abbrev tag_res_back : Res Tag → TagRes
-tag_res_back (fail why) = tagResᵛ.Fail (why_back why)
-tag_res_back (ok t n) = tagResᵛ.Ok (tag_back_lem t) n
-
-tag_res_back_lem : (r : TagRes) → tag_res_back (tag_res r) ≡ r
-tag_res_back_lem (tagResᵛ.Fail why) = ap tagResᵛ.Fail (why_back_lem why)
-tag_res_back_lem (tagResᵛ.Ok t n) = ap (λ (x : tagᵈ.Tag). tagResᵛ.Ok x n) (tag_back t)
-
 pub tag_res_only : Only tag_res
-tag_res_only = only_by tag_res tag_res_back tag_res_back_lem
+tag_res_only = res_only tag_of tag_back_lem tag_back

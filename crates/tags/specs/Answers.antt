@@ -1,6 +1,8 @@
 -- What each answer of the code says, in the words of the rules. Assumes nothing.
-use Rattle.text.specs.Nom.{Res, fail, ok}
-use Rattle.text.specs.Answers.{why_of, span_of, part_of}
+use Rattle.std.specs.Prelude.{ℕ, Result}
+use Rattle.text.specs.declared.Why as whyᵈ
+use Rattle.text.specs.Nom.{Res}
+use Rattle.text.specs.Answers.{span_of, part_of, res_of}
 use Rattle.leaves.specs.Answers.{byte_range_of, ext_tag_of, type_of}
 use Rattle.attributes.specs.Answers.{map_of}
 use Rattle.lengths.specs.Answers.{extinf_of}
@@ -8,8 +10,6 @@ use Rattle.tags.specs.declared.LeftOut as leftᵈ
 use Rattle.tags.specs.declared.LeftOut.TheVariants as leftᵛ
 use Rattle.tags.specs.declared.Tag as tagᵈ
 use Rattle.tags.specs.declared.Tag.TheVariants as tagᵛ
-use Rattle.tags.specs.declared.TagRes.{TagRes}
-use Rattle.tags.specs.declared.TagRes.TheVariants as tagResᵛ
 use Rattle.tags.specs.declared.HeadTag as headᵈ
 use Rattle.tags.specs.declared.HeadTag.TheVariants as headᵛ
 use Rattle.tags.specs.declared.ClipTag as clipᵈ
@@ -46,6 +46,5 @@ tag_of (tagᵛ.Comment t) = comment (part_of t)
 tag_of (tagᵛ.Uri u) = uri (span_of u)
 tag_of (tagᵛ.LeftOut t) = left_out (left_out_of t)
 
-abbrev pub tag_res : TagRes → Res Tag
-tag_res (tagResᵛ.Fail why) = fail (why_of why)
-tag_res (tagResᵛ.Ok t n) = ok (tag_of t) n
+abbrev pub tag_res : Result (tagᵈ.Tag × ℕ) whyᵈ.Why → Res Tag
+tag_res = res_of tag_of

@@ -11,7 +11,7 @@ use attributes::ext_map::Map;
 use leaves::basic_tags::{ExtTag, PlaylistType};
 use leaves::util::ByteRange;
 use lengths::duration::Extinf;
-use text::{Part, Span, Why};
+use text::{IResult, Span, Why};
 
 // What a tag says of the head.
 #[derive(Clone, Copy)]
@@ -49,24 +49,18 @@ pub enum Tag {
     Head(HeadTag),
     Clip(ClipTag),
     Unknown(ExtTag),
-    Comment(Part),
+    Comment(Option<Span>),
     Uri(Span),
     LeftOut(LeftOut),
 }
 
-#[derive(Clone, Copy)]
-pub enum TagRes {
-    Fail(Why),
-    Ok(Tag, usize),
-}
-
 // A tag that is its fixed text alone, whatever follows.
-pub fn marked(text: &[u8], at: usize, fixed: &[u8], t: Tag) -> TagRes
+pub fn marked(text: &[u8], at: usize, fixed: &[u8], t: Tag) -> IResult<Tag>
     ensures { tag_res result ≡ rule.marks (tag_of t) (nom.tag fixed.now) text.now at }
 {
     if scan::starts_with(text, at, fixed) {
         let after = at + fixed.len();
-        return TagRes::Ok(t, after);
+        return Ok((t, after));
     }
-    TagRes::Fail(Why::OtherText)
+    Err(Why::OtherText)
 }

@@ -1,9 +1,9 @@
 -- What each answer of the code says, in the words of `Kept`. Assumes nothing.
-use Rattle.std.specs.Prelude.{ℕ, ◌≡◌, List, true, length, replicate}
+use Rattle.std.specs.Prelude.{ℕ, ◌≡◌, List, true, length, replicate, Result, Ok, Err}
+use Rattle.text.specs.declared.Why as whyᵈ
 use Rattle.text.specs.Nom.{ok, run_end, is_space}
 use Rattle.text.specs.Answers.{span_of}
-use Rattle.attributes.specs.declared.pair.PairRes.{PairRes}
-use Rattle.attributes.specs.declared.pair.PairRes.TheVariants as pairResᵛ
+use Rattle.attributes.specs.declared.pair.Pair as pairᵈ
 use Rattle.attributes.specs.Pairs.{Pair, key_value_pair, next_pair, words}
 use Rattle.attributes.specs.Held.{LastOfEach}
 use Rattle.attributes.specs.Answers.{attr_of, pair_of}
@@ -24,14 +24,14 @@ abbrev pub memory_seen : memoryᵈ.Memory → Memory
 memory_seen m = memory (chain_seen m.first) (chain_seen m.second) (failing_seen m.fails)
 
 -- a pair that is given is there
-abbrev pub PairOk : List ℕ → ℕ → PairRes → Type 0
-PairOk text at (pairResᵛ.Fail why) = Unit
-PairOk text at (pairResᵛ.Ok p n) = key_value_pair text at ≡ ok (pair_of p) n
+abbrev pub PairOk : List ℕ → ℕ → Result (pairᵈ.Pair × ℕ) whyᵈ.Why → Type 0
+PairOk text at (Err why) = Unit
+PairOk text at (Ok v) = key_value_pair text at ≡ ok (pair_of v.0) v.1
 
 -- the pair that is there, or none where the rule fails, whatever its reason
-abbrev pub PairThere : List ℕ → ℕ → PairRes → Type 0
-PairThere text at (pairResᵛ.Fail why) = Fails text at
-PairThere text at (pairResᵛ.Ok p n) = key_value_pair text at ≡ ok (pair_of p) n
+abbrev pub PairThere : List ℕ → ℕ → Result (pairᵈ.Pair × ℕ) whyᵈ.Why → Type 0
+PairThere text at (Err why) = Fails text at
+PairThere text at (Ok v) = key_value_pair text at ≡ ok (pair_of v.0) v.1
 
 -- one more name is noted that makes no pair
 abbrev pub NotesAs : List ℕ → ℕ → Failing → Failing → Type 0

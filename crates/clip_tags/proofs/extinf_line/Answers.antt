@@ -12,8 +12,8 @@ overflow_add-at c = omega (arith, tagged_below _ _ _ (2 ^ 64 - 1) (omega arith) 
 pub returns-in-Ok : goal.returns-in-Ok
 returns-in-Ok c = rw (sym c.starts_with.ensures ∙ c.if-starts_with.true, sym c.duration_title_tag.ensures ∙ ap extinf_res c.in-Ok.is)
 
-pub returns-in-Fail : goal.returns-in-Fail
-returns-in-Fail c = rw (sym c.starts_with.ensures ∙ c.if-starts_with.true, sym c.duration_title_tag.ensures ∙ ap extinf_res c.in-Fail.is)
+pub returns-in-Err : goal.returns-in-Err
+returns-in-Err c = rw (sym c.starts_with.ensures ∙ c.if-starts_with.true, sym c.duration_title_tag.ensures ∙ ap extinf_res c.in-Err.is)
 
 pub returns : goal.returns
 returns c = rw (sym c.starts_with.ensures ∙ c.if-starts_with.false)

@@ -14,10 +14,10 @@ returns-in-Ok c kept =
     let read = c.extmap.ensures kept in
     (rw (sym c.starts_with.ensures ∙ c.if-starts_with.true, sym read.0 ∙ ap map_res c.in-Ok.is), read.1)
 
-pub returns-in-Fail : goal.returns-in-Fail
-returns-in-Fail c kept =
+pub returns-in-Err : goal.returns-in-Err
+returns-in-Err c kept =
     let read = c.extmap.ensures kept in
-    (rw (sym c.starts_with.ensures ∙ c.if-starts_with.true, sym read.0 ∙ ap map_res c.in-Fail.is), read.1)
+    (rw (sym c.starts_with.ensures ∙ c.if-starts_with.true, sym read.0 ∙ ap map_res c.in-Err.is), read.1)
 
 pub returns : goal.returns
 returns c kept = (rw (sym c.starts_with.ensures ∙ c.if-starts_with.false), kept)

@@ -8,7 +8,7 @@ returns-in-Ok c kept =
     let tried = c.tried_tag-tried.ensures kept in
     (untold_held _ tried.0 (segment_matched _ _) c.in-Ok.is, tried.1)
 
-pub returns-in-Fail : goal.returns-in-Fail
-returns-in-Fail c kept =
+pub returns-in-Err : goal.returns-in-Err
+returns-in-Err c kept =
     let tried = c.tried_tag-tried.ensures kept in
-    (untold_failed _ tried.0 (segment_matched _ _) c.in-Fail.is, tried.1)
+    (untold_failed _ tried.0 (segment_matched _ _) c.in-Err.is, tried.1)

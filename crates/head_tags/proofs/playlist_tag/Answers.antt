@@ -6,5 +6,5 @@ use Rattle.head_tags.proofs.playlist_tag.Goals as goal
 pub returns-in-Ok : goal.returns-in-Ok
 returns-in-Ok c = untold_held _ c.tried_tag-tried.ensures (playlist_matched _ _) c.in-Ok.is
 
-pub returns-in-Fail : goal.returns-in-Fail
-returns-in-Fail c = untold_failed _ c.tried_tag-tried.ensures (playlist_matched _ _) c.in-Fail.is
+pub returns-in-Err : goal.returns-in-Err
+returns-in-Err c = untold_failed _ c.tried_tag-tried.ensures (playlist_matched _ _) c.in-Err.is

@@ -9,5 +9,5 @@ returns-in-Ok c = sym (ap head_res c.in-Ok.is) ∙ c.tried_head.ensures
 pub returns-in-LeftOut : goal.returns-in-LeftOut
 returns-in-LeftOut c = sym (ap head_res c.in-LeftOut.is) ∙ c.tried_head.ensures
 
-pub returns-in-Fail : goal.returns-in-Fail
-returns-in-Fail c = sym (ap head_res c.in-Fail.is) ∙ c.tried_head.ensures
+pub returns-in-Err : goal.returns-in-Err
+returns-in-Err c = sym (ap head_res c.in-Err.is) ∙ c.tried_head.ensures

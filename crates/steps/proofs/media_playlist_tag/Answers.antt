@@ -16,7 +16,7 @@ returns-then-text-at-ne35 c kept = (c.uri_line.ensures ∙ sym (not_hash _ _ c.i
 pub returns-in-Ok : goal.returns-in-Ok
 returns-in-Ok c kept = (held _ c.playlist_tag-of_head.ensures c.in-Ok.is ∙ head_first _ _ c.if-text-at.false, kept)
 
-pub returns-in-Fail : goal.returns-in-Fail
-returns-in-Fail c kept =
+pub returns-in-Err : goal.returns-in-Err
+returns-in-Err c kept =
     let rest = c.media_segment_tag.ensures kept in
-    (rest.0 ∙ failed c.playlist_tag-of_head.ensures c.in-Fail.is ∙ head_first _ _ c.if-text-at.false, rest.1)
+    (rest.0 ∙ failed c.playlist_tag-of_head.ensures c.in-Err.is ∙ head_first _ _ c.if-text-at.false, rest.1)

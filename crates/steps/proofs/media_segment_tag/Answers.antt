@@ -10,8 +10,8 @@ returns-in-Ok c kept =
     let clip = c.segment_tag-of_clip.ensures kept in
     (held _ clip.0 c.in-Ok.is, clip.1)
 
-pub returns-in-Fail : goal.returns-in-Fail
+pub returns-in-Err : goal.returns-in-Err
 unfolding media_segment_tag
-returns-in-Fail c kept =
+returns-in-Err c kept =
     let clip = c.segment_tag-of_clip.ensures kept in
-    (c.other_tag.ensures ∙ failed clip.0 c.in-Fail.is, clip.1)
+    (c.other_tag.ensures ∙ failed clip.0 c.in-Err.is, clip.1)

@@ -27,8 +27,8 @@ loop-place-smaller c = pairs_fall _ _ _ _ (read (goal.at.loop-place-smaller c).I
 pub loop-place-preserved : goal.loop-place-preserved
 loop-place-preserved c = leads_on _ _ _ _ c.loop-place.invariant (leads_step _ _ _ _ (read (goal.at.loop-place-preserved c).In-Ok))
 
-pub returns-in-Fail : goal.returns-in-Fail
-returns-in-Fail c = c.loop-place.invariant
+pub returns-in-Err : goal.returns-in-Err
+returns-in-Err c = c.loop-place.invariant
 
 pub returns : goal.returns
 returns c = c.loop-place.invariant

@@ -21,7 +21,7 @@ returns-then-is_silent-2 c =
 
 pub returns-then-begins_name : goal.returns-then-begins_name
 returns-then-begins_name c =
-    let e = c.in-Fail.is in
+    let e = c.in-Err.is in
     let k = c.key_value_pair-found.ensures in
     let a = c.args in
     let r = c.key_value_pair-found.result in

@@ -14,5 +14,5 @@ pub returns : goal.returns
 returns c =
     λ t e j at q.
     let i = c.insert.ensures in
-    let v = value_of c.in-Present.value in
-    list_joined _ _ _ v _ _ _ _ _ at t (e ∙ sym (ap length i ∙ inserted_length _ _ _ _ _)) (ap attr_of c.in-Present.is) j q i c.hold_later.ensures
+    let v = value_of c.in-Some.value in
+    list_joined _ _ _ v _ _ _ _ _ at t (e ∙ sym (ap length i ∙ inserted_length _ _ _ _ _)) (ap attr_of c.in-Some.is) j q i c.hold_later.ensures

@@ -17,8 +17,8 @@ use Rattle.steps.proofs.common.common_end.Goals.{In-Extinf}
 pub returns-in-Ok : goal.returns-in-Ok
 returns-in-Ok c = ap end_in (ap uri_in (sym (ap span_res c.in-Ok.is) ∙ c.consume_line.ensures) ∙ of_kind _ _ c.kind_at.ensures c.in-Uri.is)
 
-pub returns-in-Fail : goal.returns-in-Fail
-returns-in-Fail c = ap end_in (ap uri_in (sym (ap span_res c.in-Fail.is) ∙ c.consume_line.ensures) ∙ of_kind _ _ c.kind_at.ensures c.in-Uri.is)
+pub returns-in-Err : goal.returns-in-Err
+returns-in-Err c = ap end_in (ap uri_in (sym (ap span_res c.in-Err.is) ∙ c.consume_line.ensures) ∙ of_kind _ _ c.kind_at.ensures c.in-Uri.is)
 
 -- the line begins as an EXTINF
 there : (c : In-Extinf) → (let a = c.args in tagged (literal extinf_row) a.text.now a.at ≡ true)
@@ -30,8 +30,8 @@ overflow_add-at c = omega (arith, tagged_below _ _ _ (2 ^ 64 - 1) (omega arith) 
 pub returns-in-Ok-extinf_end : goal.returns-in-Ok-extinf_end
 returns-in-Ok-extinf_end c = extinf_ends _ _ (sym (ap extinf_end c.in-Ok-extinf_end.is) ∙ c.extinf_end.ensures) (of_kind _ _ c.kind_at.ensures c.in-Extinf.is)
 
-pub returns-in-Fail-extinf_end : goal.returns-in-Fail-extinf_end
-returns-in-Fail-extinf_end c = extinf_ends _ _ (sym (ap extinf_end c.in-Fail-extinf_end.is) ∙ c.extinf_end.ensures) (of_kind _ _ c.kind_at.ensures c.in-Extinf.is)
+pub returns-in-Err-extinf_end : goal.returns-in-Err-extinf_end
+returns-in-Err-extinf_end c = extinf_ends _ _ (sym (ap extinf_end c.in-Err-extinf_end.is) ∙ c.extinf_end.ensures) (of_kind _ _ c.kind_at.ensures c.in-Extinf.is)
 
 pub returns-in-Other : goal.returns-in-Other
 returns-in-Other c = ap end_in (of_kind _ _ c.kind_at.ensures c.in-Other.is)

@@ -16,8 +16,8 @@ use Rattle.steps.proofs.common.common_line.Goals.{In-Extinf}
 pub returns-in-Ok : goal.returns-in-Ok
 returns-in-Ok c = ap uri_in (sym (ap span_res c.in-Ok.is) ∙ c.consume_line.ensures) ∙ of_kind _ _ c.kind_at.ensures c.in-Uri.is
 
-pub returns-in-Fail : goal.returns-in-Fail
-returns-in-Fail c = ap uri_in (sym (ap span_res c.in-Fail.is) ∙ c.consume_line.ensures) ∙ of_kind _ _ c.kind_at.ensures c.in-Uri.is
+pub returns-in-Err : goal.returns-in-Err
+returns-in-Err c = ap uri_in (sym (ap span_res c.in-Err.is) ∙ c.consume_line.ensures) ∙ of_kind _ _ c.kind_at.ensures c.in-Uri.is
 
 -- the line begins as an EXTINF
 there : (c : In-Extinf) → (let a = c.args in tagged (literal extinf_row) a.text.now a.at ≡ true)
@@ -29,8 +29,8 @@ overflow_add-at c = omega (arith, tagged_below _ _ _ (2 ^ 64 - 1) (omega arith) 
 pub returns-in-Ok-duration_title_tag : goal.returns-in-Ok-duration_title_tag
 returns-in-Ok-duration_title_tag c = ap extinf_in (sym (ap extinf_res c.in-Ok-duration_title_tag.is) ∙ c.duration_title_tag.ensures) ∙ of_kind _ _ c.kind_at.ensures c.in-Extinf.is
 
-pub returns-in-Fail-duration_title_tag : goal.returns-in-Fail-duration_title_tag
-returns-in-Fail-duration_title_tag c = ap extinf_in (sym (ap extinf_res c.in-Fail-duration_title_tag.is) ∙ c.duration_title_tag.ensures) ∙ of_kind _ _ c.kind_at.ensures c.in-Extinf.is
+pub returns-in-Err-duration_title_tag : goal.returns-in-Err-duration_title_tag
+returns-in-Err-duration_title_tag c = ap extinf_in (sym (ap extinf_res c.in-Err-duration_title_tag.is) ∙ c.duration_title_tag.ensures) ∙ of_kind _ _ c.kind_at.ensures c.in-Extinf.is
 
 pub returns-in-Other : goal.returns-in-Other
 returns-in-Other c = of_kind _ _ c.kind_at.ensures c.in-Other.is

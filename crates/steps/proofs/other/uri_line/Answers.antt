@@ -6,5 +6,5 @@ use Rattle.steps.proofs.other.uri_line.Goals as goal
 pub returns-in-Ok : goal.returns-in-Ok
 returns-in-Ok c = rw (sym c.consume_line.ensures ∙ ap span_res c.in-Ok.is)
 
-pub returns-in-Fail : goal.returns-in-Fail
-returns-in-Fail c = rw (sym c.consume_line.ensures ∙ ap span_res c.in-Fail.is)
+pub returns-in-Err : goal.returns-in-Err
+returns-in-Err c = rw (sym c.consume_line.ensures ∙ ap span_res c.in-Err.is)

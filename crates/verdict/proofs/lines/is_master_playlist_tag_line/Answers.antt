@@ -15,8 +15,8 @@ returns-in-Ok c =
     let kind = sym c.tag_kind.ensures ∙ ap (opt_kind _) c.in-Ok.is in
     rw (lt-ltb _ _ c.if-text-at.false, ← c.while_two-hash.ensures, kind) c.with_rest.ensures
 
-pub returns-in-Fail : goal.returns-in-Fail
+pub returns-in-Err : goal.returns-in-Err
 unfolding is_master_playlist_tag_line
-returns-in-Fail c =
-    let none = sym c.tag_kind.ensures ∙ ap (opt_kind _) c.in-Fail.is in
-    rw (lt-ltb _ _ c.if-text-at.false, ← c.while_two-hash.ensures, none) c.with_rest-in-Fail.ensures
+returns-in-Err c =
+    let none = sym c.tag_kind.ensures ∙ ap (opt_kind _) c.in-Err.is in
+    rw (lt-ltb _ _ c.if-text-at.false, ← c.while_two-hash.ensures, none) c.with_rest-in-Err.ensures

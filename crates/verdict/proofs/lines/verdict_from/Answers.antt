@@ -22,9 +22,9 @@ from-line c = c.loop-says.invariant ∙ c.quiet_end-line.ensures.1 ∙ verdict_s
 pub loop-says-init : goal.loop-says-init
 loop-says-init c = refl
 
-pub returns-in-Fail : goal.returns-in-Fail
-returns-in-Fail c =
-    let fails = sym c.is_master_playlist_tag_line.ensures ∙ ap line_res c.in-Fail.is in
+pub returns-in-Err : goal.returns-in-Err
+returns-in-Err c =
+    let fails = sym c.is_master_playlist_tag_line.ensures ∙ ap line_res c.in-Err.is in
     sym (c.loop-says.invariant ∙ c.quiet_end-line.ensures.1 ∙ verdict_stop _ _ _ fails)
 
 pub loop-says-smaller : goal.loop-says-smaller

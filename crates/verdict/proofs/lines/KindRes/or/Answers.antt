@@ -6,6 +6,6 @@ pub returns-in-Ok : goal.returns-in-Ok
 unfolding or_row
 returns-in-Ok c = rw c.in-Ok.is
 
-pub returns-in-Fail : goal.returns-in-Fail
+pub returns-in-Err : goal.returns-in-Err
 unfolding or_row
-returns-in-Fail c = rw c.in-Fail.is c.named.ensures
+returns-in-Err c = rw c.in-Err.is c.named.ensures
