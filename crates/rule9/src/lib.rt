@@ -11,7 +11,7 @@ ghost use Rattle.assembly.specs.Answers.{head_seen};
 ghost use Rattle.rule9.specs.Rule9 as rule;
 ghost use Rattle.rule9.specs.Inside.Held.{Holds, zero_words};
 
-use assembly::head::{Head, HeadType};
+use assembly::head::Head;
 use leaves::basic_tags::PlaylistType;
 use lengths::binary32;
 use tables::{layout, record};
@@ -20,14 +20,9 @@ use tables::{layout, record};
 fn head_fits(text: &[u8], head: Head) -> bool
     ensures { result ≡ rule.head_fits text.now (head_seen head) }
 {
-    let t = head.playlist_type;
-    match t {
-        HeadType::Absent => true,
-        HeadType::Is(t) => match t {
-            PlaylistType::Event => true,
-            PlaylistType::Vod => true,
-            PlaylistType::Other(s) => scan::span_fits(text, s.start as u64, s.end as u64),
-        },
+    match head.playlist_type {
+        Some(PlaylistType::Other(s)) => scan::span_fits(text, s.start as u64, s.end as u64),
+        _ => true,
     }
 }
 

@@ -2,4 +2,4 @@
 use Rattle.rule9.proofs.head_fits.Goals as goal
 
 pub returns-in-Other : goal.returns-in-Other
-returns-in-Other c = rw (c.in-Is.is, c.in-Other.is) c.span_fits.ensures
+returns-in-Other c = rw (c.in-Some.is, c.in-Other.is) c.span_fits.ensures

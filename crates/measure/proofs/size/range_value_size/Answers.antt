@@ -6,10 +6,10 @@ use Rattle.text.specs.Nom.{bytes}
 use Rattle.digits.specs.Digits.{number_text}
 use Rattle.measure.proofs.size.range_value_size.Goals as goal
 
-pub returns-in-Absent : goal.returns-in-Absent
-returns-in-Absent c =
+pub returns-in-None : goal.returns-in-None
+returns-in-None c =
     record {
-      size = rw c.in-Absent.is (omega (arith, c.number_size-length.ensures));
+      size = rw c.in-None.is (omega (arith, c.number_size-length.ensures));
       most = omega (arith, c.number_size-length.ensures);
     }
 
