@@ -129,11 +129,9 @@ fn zero_words(clips: &[u64], k: usize, from: usize, to: usize) -> bool
     ensures { result ≡ zero_words clips.now k from to }
 {
     let mut zeros = true;
-    let mut place = from;
-    while place < to {
+    for place in from..to {
         let word = held_word(clips, k, place);
         zeros = zeros & (word == 0);
-        place += 1;
     }
     zeros
 }
@@ -171,8 +169,7 @@ fn clips_keep(text: &[u8], clips: &[u64], clip_count: usize, tag_count: u64) -> 
     ensures { result ≡ every (rule.clip_keeps text.now clips.now) clip_count && rule.runs_adjoin clips.now clip_count tag_count }
 {
     let mut first: u64 = 0;
-    let mut k: usize = 0;
-    while k < clip_count {
+    for k in 0..clip_count {
         if !clip_keeps(text, clips, k) {
             return false;
         }
@@ -186,7 +183,6 @@ fn clips_keep(text: &[u8], clips: &[u64], clip_count: usize, tag_count: u64) -> 
             return false;
         }
         first += count;
-        k += 1;
     }
     first == tag_count
 }
@@ -194,12 +190,10 @@ fn clips_keep(text: &[u8], clips: &[u64], clip_count: usize, tag_count: u64) -> 
 fn tags_keep(text: &[u8], tags: &[u64], tag_count: usize) -> bool
     ensures { result ≡ every (rule.tag_keeps text.now tags.now) tag_count }
 {
-    let mut k: usize = 0;
-    while k < tag_count {
+    for k in 0..tag_count {
         if !tag_keeps(text, tags, k) {
             return false;
         }
-        k += 1;
     }
     true
 }

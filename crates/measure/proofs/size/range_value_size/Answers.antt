@@ -13,11 +13,11 @@ returns-in-None c =
       most = omega (arith, c.number_size-length.ensures);
     }
 
-pub returns-in-At : goal.returns-in-At
-returns-in-At c =
+pub returns-in-Some : goal.returns-in-Some
+returns-in-Some c =
     let n = c.args.r.length in
-    let o = c.in-At.o in
+    let o = c.in-Some.o in
     record {
-      size = rw c.in-At.is (omega (arith, c.number_size-value.ensures, c.number_size-length.ensures, length-append (number_text n) (bytes "@" ++ number_text o)));
+      size = rw c.in-Some.is (omega (arith, c.number_size-value.ensures, c.number_size-length.ensures, length-append (number_text n) (bytes "@" ++ number_text o)));
       most = omega (arith, c.number_size-value.ensures, c.number_size-length.ensures);
     }
