@@ -13,8 +13,9 @@ use Rattle.chains.specs.Inside.Kept.{Chain, chain, present, Forward, is_silent}
 use Rattle.text.specs.Nom.{fail, bytes, is_none_of, run_end, is_space}
 use Rattle.text.proofs.Laws.{and_left, and_right}
 use Rattle.text.specs.Answers.{why_of}
-use Rattle.attributes.specs.declared.pair.PairRes.{PairRes}
-use Rattle.attributes.specs.declared.pair.PairRes.TheVariants as pairResᵛ
+use Rattle.std.specs.Prelude.{Result, Ok, Err}
+use Rattle.text.specs.declared.Why as whyᵈ
+use Rattle.attributes.specs.declared.pair.Pair as pairᵈ
 use Rattle.attributes.specs.Pairs.{Pair, key_value_pair}
 use Rattle.attributes.specs.Answers.{pair_res}
 use Rattle.chains.specs.Inside.Kept.{begins_name, Fails, Silent}
@@ -50,13 +51,13 @@ forward_none text c d e names kept t v q = absurd (nothing (sym e ∙ q))
     nothing z = let w : ◌≡◌ {A = ℕ} 0 1 = cc in omega arith
 
 -- ---- what a pair that was tried says
-pub pair_there : (text : List ℕ) (at : ℕ) (r : PairRes) → pair_res r ≡ key_value_pair text at → PairThere text at r
-pair_there text at (pairResᵛ.Fail why) e = record { why = why_of why; fails = sym e }
-pair_there text at (pairResᵛ.Ok p n) e = sym e
+pub pair_there : (text : List ℕ) (at : ℕ) (r : Result (pairᵈ.Pair × ℕ) whyᵈ.Why) → pair_res r ≡ key_value_pair text at → PairThere text at r
+pair_there text at (Err why) e = record { why = why_of why; fails = sym e }
+pair_there text at (Ok v) e = sym e
 
-pub pair_ok : (text : List ℕ) (at : ℕ) (r : PairRes) → pair_res r ≡ key_value_pair text at → PairOk text at r
-pair_ok text at (pairResᵛ.Fail why) e = tt
-pair_ok text at (pairResᵛ.Ok p n) e = sym e
+pub pair_ok : (text : List ℕ) (at : ℕ) (r : Result (pairᵈ.Pair × ℕ) whyᵈ.Why) → pair_res r ≡ key_value_pair text at → PairOk text at r
+pair_ok text at (Err why) e = tt
+pair_ok text at (Ok v) e = sym e
 
 -- a name that makes no pair, and all that begin within it
 pub noted_true : (text : List ℕ) (at e : ℕ) → Fails text at → begins_name text at ≡ true → e ≡ run_end (is_none_of (bytes "=")) text at → Silent text (span (at + 1) e)

@@ -18,7 +18,7 @@ returns-then-place-end c = c.loop-place.invariant
 read : (c : In-Ok) →
     let l = c.loop-place in
     let a = c.args in
-    next_pair a.text.now l.place ≡ ok (pair_of c.in-Ok.field-0) c.in-Ok.after
+    next_pair a.text.now l.place ≡ ok (pair_of c.in-Ok.field-0-0) c.in-Ok.after
 read c = sym c.next_pair.ensures ∙ ap pair_res c.in-Ok.is
 
 pub loop-place-smaller : goal.loop-place-smaller
@@ -27,8 +27,8 @@ loop-place-smaller c = pairs_fall _ _ _ _ (read (goal.at.loop-place-smaller c).I
 pub loop-place-preserved : goal.loop-place-preserved
 loop-place-preserved c = leads_on _ _ _ _ c.loop-place.invariant (leads_step _ _ _ _ (read (goal.at.loop-place-preserved c).In-Ok))
 
-pub returns-in-Err : goal.returns-in-Err
-returns-in-Err c = c.loop-place.invariant
+pub returns-in_default : goal.returns-in_default
+returns-in_default c = c.loop-place.invariant
 
 pub returns : goal.returns
 returns c = c.loop-place.invariant

@@ -35,8 +35,8 @@ loop-next-preserved c =
     let on = chain_on _ (chain (span_of l.name) (attr_of l.value) l.next _) _ _ _ l.invariant.0 (read (goal.at.loop-next-preserved c).In-Ok) in
     (refl, λ names kept t. on names kept (l.invariant.1 names kept t))
 
-pub returns-in-Err : goal.returns-in-Err
-returns-in-Err c = forward_none _ _ _ c.nothing-in-Err.ensures
+pub returns-in_default : goal.returns-in_default
+returns-in_default c = forward_none _ _ _ c.nothing-in_default.ensures
 
 pub returns : goal.returns
 returns c = c.loop-next.invariant.1

@@ -57,14 +57,14 @@ loop-place-preserved c =
       ),
     )
 
-pub shape_of-held-in-Err : goal.shape_of-held-in-Err
-shape_of-held-in-Err c = c.loop-place.invariant.1.0
+pub shape_of-held-in_default : goal.shape_of-held-in_default
+shape_of-held-in_default c = c.loop-place.invariant.1.0
 
-pub returns-in-Err : goal.returns-in-Err
-returns-in-Err c =
+pub returns-in_default : goal.returns-in_default
+returns-in_default c =
     λ t k e.
     let l = c.loop-place in
     let u = l.invariant.1.1 t in
     let tried = c.pair_at-tried.ensures.tried_pair u.0 in
-    let none = none_behind _ l.from _ c.while_two.ensures (rw c.in-Err.is at tried.0) in
+    let none = none_behind _ l.from _ c.while_two.ensures (rw c.in_default.is at tried.0) in
     (u.1 _ _ (list_none _ _ l.from _ _ none), tried.1)
