@@ -11,9 +11,6 @@ use Rattle.chains.proofs.chain.advance.Goals.{In-Ok}
 pub loop-place-init : goal.loop-place-init
 loop-place-init c = leads_none _ _
 
-pub returns-then-place-end : goal.returns-then-place-end
-returns-then-place-end c = c.loop-place.invariant
-
 -- the pair that was read
 read : (c : In-Ok) →
     let l = c.loop-place in
@@ -27,8 +24,3 @@ loop-place-smaller c = pairs_fall _ _ _ _ (read (goal.at.loop-place-smaller c).I
 pub loop-place-preserved : goal.loop-place-preserved
 loop-place-preserved c = leads_on _ _ _ _ c.loop-place.invariant (leads_step _ _ _ _ (read (goal.at.loop-place-preserved c).In-Ok))
 
-pub returns-in_default : goal.returns-in_default
-returns-in_default c = c.loop-place.invariant
-
-pub returns : goal.returns
-returns c = c.loop-place.invariant

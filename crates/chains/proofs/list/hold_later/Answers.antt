@@ -9,12 +9,6 @@ use Rattle.chains.proofs.Overlaid.{overlaid_next, overlaid_end, overlaid_length}
 use lib.ListN.{length}
 use Rattle.chains.proofs.list.hold_later.Goals as goal
 
-pub loop-n-init : goal.loop-n-init
-loop-n-init c =
-    let a = c.args in
-    let z : length a.held.now / attr_words - 0 ≡ length a.held.now / attr_words = omega arith in
-    (refl, rw z)
-
 pub loop-n-preserved : goal.loop-n-preserved
 loop-n-preserved c =
     let l = c.loop-n in
@@ -23,9 +17,6 @@ loop-n-preserved c =
     let all = length a.held.now / attr_words in
     let more : l.n < all = search rules in
     (ap length o ∙ overlaid_length _ _ _ ∙ l.invariant.0, rw o (rw (listed_left _ l.n all more, overlaid_next) at l.invariant.1))
-
-pub shape_of-held : goal.shape_of-held
-shape_of-held c = c.loop-n.invariant.0
 
 pub returns : goal.returns
 returns c =

@@ -7,9 +7,6 @@ use Rattle.chains.proofs.Overlaid.{inserted_length}
 use lib.ListN.{length}
 use Rattle.chains.proofs.list.joined.Goals as goal
 
-pub returns-in_default : goal.returns-in_default
-returns-in_default c = λ t e j at q. absurd (false≢true (rw (ap attr_of c.in_default.is) at j))
-
 pub returns : goal.returns
 returns c =
     λ t e j at q.

@@ -16,12 +16,6 @@ use lib.ListN.{length}
 use Rattle.chains.proofs.list.walk.Goals as goal
 use Rattle.chains.proofs.list.walk.Goals.{In-Ok}
 
-pub loop-place-init : goal.loop-place-init
-loop-place-init c = (leads_none _ _, (refl, λ t. (t, λ end h l. l)))
-
-pub shape_of-held-then-follows-place : goal.shape_of-held-then-follows-place
-shape_of-held-then-follows-place c = ap length c.hold_later.ensures ∙ overlaid_length _ _ _ ∙ c.loop-place.invariant.1.0
-
 pub returns-then-follows-place : goal.returns-then-follows-place
 returns-then-follows-place c =
     λ t k e.
@@ -34,6 +28,9 @@ returns-then-follows-place c =
     let place : c.advance-place.result ≡ l.from = eqb-true _ _ (and_right follows (eqb c.advance-place.result l.from) both) in
     let leads = leads_on _ _ _ _ l.invariant.0 c.advance-place.ensures in
     (u.1 _ _ (list_joins _ _ (chain_seen a.other) _ _ _ l.from k (rw place at leads) (e ∙ sym l.invariant.1.0) kept c.hold_later.ensures), u.0)
+
+pub loop-place-init : goal.loop-place-init
+loop-place-init c = (leads_none _ _, (refl, λ t. (t, λ end h l. l)))
 
 -- the pair that was read
 read : (c : In-Ok) →
@@ -56,9 +53,6 @@ loop-place-preserved c =
             ((c.pair_at-tried.ensures.tried_pair u.0).1, λ end h x. u.1 end h (list_step _ _ _ _ _ _ _ _ _ (read (goal.at.loop-place-preserved c).In-Ok) i x)),
       ),
     )
-
-pub shape_of-held-in_default : goal.shape_of-held-in_default
-shape_of-held-in_default c = c.loop-place.invariant.1.0
 
 pub returns-in_default : goal.returns-in_default
 returns-in_default c =
