@@ -23,4 +23,3 @@ loop-place-smaller c = pairs_fall _ _ _ _ (read (goal.at.loop-place-smaller c).I
 
 pub loop-place-preserved : goal.loop-place-preserved
 loop-place-preserved c = leads_on _ _ _ _ c.loop-place.invariant (leads_step _ _ _ _ (read (goal.at.loop-place-preserved c).In-Ok))
-

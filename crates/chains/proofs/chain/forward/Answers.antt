@@ -6,7 +6,7 @@ use Rattle.attributes.specs.Pairs.{next_pair}
 use Rattle.attributes.specs.Answers.{pair_of, pair_res, attr_of}
 use Rattle.attributes.proofs.Walk.{pairs_fall}
 use Rattle.chains.specs.Inside.Kept.{chain}
-use Rattle.chains.proofs.Tests.{chain_on, forward_none}
+use Rattle.chains.proofs.Tests.{chain_on}
 use Rattle.chains.proofs.chain.forward.Goals as goal
 use Rattle.chains.proofs.chain.forward.Goals.{In-Ok}
 
@@ -25,4 +25,3 @@ loop-next-preserved c =
     let l = c.loop-next in
     let on = chain_on _ (chain (span_of l.name) (attr_of l.value) l.next _) _ _ _ l.invariant.0 (read (goal.at.loop-next-preserved c).In-Ok) in
     (refl, λ names kept t. on names kept (l.invariant.1 names kept t))
-

@@ -1,8 +1,7 @@
 -- `list::hold_later`: what is left of the numbers, done from here, is the whole. Assumes nothing.
 use borrow.Author.Rules.{rules}
-use native.Mathlib.Omega.{arith}
-use Prim.Native.Nat.{◌-◌, ◌≤◌, ◌<◌, ◌/◌}
-use mathlib.Core.Path.{◌≡◌, refl, ◌∙◌, ap}
+use Prim.Native.Nat.{◌≤◌, ◌<◌, ◌/◌}
+use mathlib.Core.Path.{◌∙◌, ap}
 use Rattle.tables.proofs.Listed.{listed_left, listed_over}
 use Rattle.attributes.specs.Held.{attr_words}
 use Rattle.chains.proofs.Overlaid.{overlaid_next, overlaid_end, overlaid_length}

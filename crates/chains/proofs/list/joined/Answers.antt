@@ -1,6 +1,5 @@
 -- `list::joined`: one pair, read as the chain's is, and then the chain (`list_joined`). Assumes nothing.
 use mathlib.Core.Path.{sym, ◌∙◌, ap}
-use mathlib.Core.Bool.{false≢true}
 use Rattle.attributes.specs.Answers.{attr_of, value_of}
 use Rattle.chains.proofs.Renewed.{list_joined}
 use Rattle.chains.proofs.Overlaid.{inserted_length}

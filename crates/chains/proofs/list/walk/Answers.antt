@@ -9,7 +9,7 @@ use Rattle.attributes.specs.Answers.{pair_of}
 use Rattle.attributes.proofs.Walk.{pairs_fall}
 use Rattle.chains.specs.Inside.Answers.{chain_seen}
 use Rattle.chains.proofs.Leads.{leads_none, leads_on}
-use Rattle.chains.proofs.Overlaid.{list_none, list_step, inserted_length, overlaid_length}
+use Rattle.chains.proofs.Overlaid.{list_none, list_step, inserted_length}
 use Rattle.chains.proofs.Renewed.{list_joins}
 use Rattle.chains.proofs.Tests.{pair_behind, none_behind}
 use lib.ListN.{length}
