@@ -1,23 +1,17 @@
 -- No two heads say the same: a head by what it says, part by part. Assumes nothing.
 use mathlib.Core.Path.{◌≡◌, refl, ap}
-use Rattle.text.proofs.Only.{Only}
-use Rattle.leaves.proofs.Only.{type_only}
-use Rattle.assembly.specs.declared.head.Version.TheVariants as versionᵛ
-use Rattle.assembly.specs.declared.head.HeadType.TheVariants as typeᵛ
+use Prim.Native.Nat.{ℕ}
+use Rattle.text.proofs.Only.{Only, perhaps_only}
+use Rattle.leaves.specs.Answers.{type_of}
+use Rattle.leaves.proofs.Only.{type_back, type_back_lem}
 use Rattle.assembly.specs.Answers.{version_of, head_type_of, head_seen}
 use Rattle.assembly.specs.Assembly.{Head}
 
 version_only : Only version_of
-version_only versionᵛ.Absent versionᵛ.Absent e = refl
-version_only versionᵛ.Absent (versionᵛ.Is w) e = cc
-version_only (versionᵛ.Is v) versionᵛ.Absent e = cc
-version_only (versionᵛ.Is v) (versionᵛ.Is w) e = cc
+version_only = perhaps_only (λ (v : ℕ). v) (λ v. v) (λ v. refl)
 
 head_type_only : Only head_type_of
-head_type_only typeᵛ.Absent typeᵛ.Absent e = refl
-head_type_only typeᵛ.Absent (typeᵛ.Is u) e = cc
-head_type_only (typeᵛ.Is t) typeᵛ.Absent e = cc
-head_type_only (typeᵛ.Is t) (typeᵛ.Is u) e = ap typeᵛ.Is (type_only t u (cc))
+head_type_only = perhaps_only type_of type_back type_back_lem
 
 pub head_only : Only head_seen
 head_only a b e =

@@ -9,15 +9,13 @@ ghost use Rattle.assembly.specs.Assembly.{empty_segment};
 ghost use Rattle.assembly.specs.Inside.Making as rule;
 ghost use Rattle.assembly.specs.Inside.Making.{making_seen};
 
-use crate::segment::SegmentMap;
 use crate::wording;
 use crate::wording::{MapWords, Two};
-use attributes::ext_map::OptRange;
 use lengths::binary32;
 use lengths::duration::{Extinf, Length};
 use tables::layout;
 use tags::{ClipTag, Tag};
-use text::{Part, Span};
+use text::Span;
 
 #[derive(Clone, Copy)]
 pub struct Making {
@@ -37,12 +35,12 @@ impl Making {
     {
         Making {
             length: 0,
-            title: wording::part_words(Part::Absent),
+            title: wording::part_words(None),
             range_flags: 0,
             break_flags: 0,
             map_flags: 0,
-            range: wording::range_words(OptRange::Absent),
-            map: wording::map_words(SegmentMap::Absent),
+            range: wording::range_words(None),
+            map: wording::map_words(None),
         }
     }
 
@@ -71,7 +69,7 @@ impl Making {
         match t {
             ClipTag::Timed(e) => return self.timed(e),
             ClipTag::Ranged(r) => {
-                let range = OptRange::Present(r);
+                let range = Some(r);
                 m.range = wording::range_words(range);
                 m.range_flags = wording::range_flags(
                     layout::HAS_RANGE as u8,
@@ -81,7 +79,7 @@ impl Making {
             }
             ClipTag::Discontinuity => m.break_flags = layout::HAS_DISCONTINUITY as u8,
             ClipTag::Mapped(map) => {
-                let map = SegmentMap::Is(map);
+                let map = Some(map);
                 m.map = wording::map_words(map);
                 m.map_flags = wording::map_flags(map);
             }

@@ -1,18 +1,13 @@
 // A clip's tags by value: what the tags since the last URI said.
-use attributes::ext_map::{Map, OptRange};
-use text::Part;
-
-#[derive(Clone, Copy)]
-pub enum SegmentMap {
-    Absent,
-    Is(Map),
-}
+use attributes::ext_map::Map;
+use leaves::util::ByteRange;
+use text::Span;
 
 #[derive(Clone, Copy)]
 pub struct Segment {
     pub length: u64,
-    pub title: Part,
-    pub byte_range: OptRange,
+    pub title: Option<Span>,
+    pub byte_range: Option<ByteRange>,
     pub discontinuity: bool,
-    pub map: SegmentMap,
+    pub map: Option<Map>,
 }

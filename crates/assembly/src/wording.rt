@@ -7,12 +7,11 @@ ghost use Rattle.tables.specs.Layout.{flag_limit};
 ghost use Rattle.assembly.specs.Words as rule;
 ghost use Rattle.assembly.specs.Answers.{segment_map_of};
 
-use crate::segment::SegmentMap;
-use attributes::ext_map::OptRange;
+use attributes::ext_map::Map;
 use leaves::basic_tags::ExtTag;
-use leaves::util::Offset;
+use leaves::util::ByteRange;
 use tables::layout;
-use text::Part;
+use text::Span;
 
 // A part's start and end, or a range's length and offset.
 #[derive(Clone, Copy)]
@@ -21,39 +20,30 @@ pub struct Two {
     pub second: u64,
 }
 
-pub(crate) fn part_words(p: Part) -> Two
+pub(crate) fn part_words(p: Option<Span>) -> Two
     ensures { result.first ∷ result.second ∷ [] ≡ rule.part_words (part_of p) }
 {
     match p {
-        Part::Present(s) => Two {
+        Some(s) => Two {
             first: s.start as u64,
             second: s.end as u64,
         },
-        Part::Absent => Two {
+        None => Two {
             first: 0,
             second: 0,
         },
     }
 }
 
-pub(crate) fn range_words(r: OptRange) -> Two
+pub(crate) fn range_words(r: Option<ByteRange>) -> Two
     ensures { result.first ∷ result.second ∷ [] ≡ rule.range_words (opt_range_of r) }
 {
     match r {
-        OptRange::Present(range) => {
-            let offset = range.offset;
-            match offset {
-                Offset::At(o) => Two {
-                    first: range.length,
-                    second: o,
-                },
-                Offset::Absent => Two {
-                    first: range.length,
-                    second: 0,
-                },
-            }
-        }
-        OptRange::Absent => Two {
+        Some(range) => Two {
+            first: range.length,
+            second: range.offset.unwrap_or(0),
+        },
+        None => Two {
             first: 0,
             second: 0,
         },
@@ -70,11 +60,11 @@ pub struct MapWords {
     pub list_end: u64,
 }
 
-pub(crate) fn map_words(m: SegmentMap) -> MapWords
+pub(crate) fn map_words(m: Option<Map>) -> MapWords
     ensures { result.uri_start ∷ result.uri_end ∷ result.range_length ∷ result.range_offset ∷ result.list_start ∷ result.list_end ∷ [] ≡ rule.map_words (segment_map_of m) }
 {
     match m {
-        SegmentMap::Is(m) => {
+        Some(m) => {
             let uri = m.uri;
             let list = m.list;
             let range = m.byte_range;
@@ -88,7 +78,7 @@ pub(crate) fn map_words(m: SegmentMap) -> MapWords
                 list_end: list.end as u64,
             }
         }
-        SegmentMap::Absent => MapWords {
+        None => MapWords {
             uri_start: 0,
             uri_end: 0,
             range_length: 0,
@@ -100,27 +90,24 @@ pub(crate) fn map_words(m: SegmentMap) -> MapWords
 }
 
 // `present` tells of a range, `offset` of its offset.
-pub(crate) fn range_flags(present: u8, offset: u8, r: OptRange) -> u8
+pub(crate) fn range_flags(present: u8, offset: u8, r: Option<ByteRange>) -> u8
     requires { present + offset < flag_limit }
     ensures { result ≡ rule.range_flags present offset (opt_range_of r) }
 {
     match r {
-        OptRange::Present(range) => {
-            let at = range.offset;
-            match at {
-                Offset::At(_) => present + offset,
-                Offset::Absent => present,
-            }
-        }
-        OptRange::Absent => 0,
+        Some(range) => match range.offset {
+            Some(_) => present + offset,
+            None => present,
+        },
+        None => 0,
     }
 }
 
-pub(crate) fn map_flags(m: SegmentMap) -> u8
+pub(crate) fn map_flags(m: Option<Map>) -> u8
     ensures { result ≡ rule.map_flags (segment_map_of m) }
 {
     match m {
-        SegmentMap::Is(m) => {
+        Some(m) => {
             let range = m.byte_range;
             layout::HAS_MAP as u8
                 + range_flags(
@@ -129,7 +116,7 @@ pub(crate) fn map_flags(m: SegmentMap) -> u8
                     range,
                 )
         }
-        SegmentMap::Absent => 0,
+        None => 0,
     }
 }
 

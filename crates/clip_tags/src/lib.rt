@@ -103,5 +103,5 @@ pub fn tried_tag(text: &[u8], at: usize, memory: &mut [u64]) -> IResult<Tag>
 pub fn segment_tag(text: &[u8], at: usize, memory: &mut [u64]) -> IResult<Tag>
     ensures { Remembering text.now memory.old memory.new (tag_res result ≡ rule.segment_tag text.now at) }
 {
-    tried_tag(text, at, memory).map_err(|_| Why::OtherText)
+    tried_tag(text, at, memory).or(Err(Why::OtherText))
 }

@@ -41,11 +41,8 @@ fn tag_lines(
 {
     let end = run_end(first, count, tag_count);
     let mut to = at;
-    let mut k = first;
-    while k < end {
-        let t = records::tag_at(tags, k);
-        to = lines::tag_line(out, to, text, t);
-        k += 1;
+    for k in first..end {
+        to = lines::tag_line(out, to, text, records::tag_at(tags, k));
     }
     to
 }

@@ -8,22 +8,20 @@ ghost use Rattle.assembly.specs.Answers.{segment_map_of};
 ghost use Rattle.put.specs.Put.{Puts};
 ghost use Rattle.playlist.specs.Lines.{byte_range_line, extinf_line, uri_line, range_bytes, map_range_bytes, rest_bytes, line_bytes, line_if, lines_text, map_line_of, tag_line_of, title_text};
 
-use assembly::segment::SegmentMap;
-use attributes::ext_map::{Map, OptRange};
+use attributes::ext_map::Map;
 use leaves::basic_tags::ExtTag;
-use leaves::util::{ByteRange, Offset};
-use text::{Part, Span};
+use leaves::util::ByteRange;
+use text::Span;
 
 // ---- byte ranges and the map
 
 fn range_value(out: &mut [u8], at: usize, r: ByteRange) -> usize
     ensures { Puts out.old at (range_bytes (byte_range_of r)) out.new result }
 {
-    let offset = r.offset;
     let sign = numerals::number(out, at, r.length);
-    match offset {
-        Offset::Absent => sign,
-        Offset::At(o) => {
+    match r.offset {
+        None => sign,
+        Some(o) => {
             let value = put::byte(out, sign, b'@');
             numerals::number(out, value, o)
         }
@@ -38,21 +36,21 @@ pub(crate) fn range_line(out: &mut [u8], at: usize, r: ByteRange) -> usize
     put::byte(out, end, b'\n')
 }
 
-pub(crate) fn range_lines(out: &mut [u8], at: usize, r: OptRange) -> usize
+pub(crate) fn range_lines(out: &mut [u8], at: usize, r: Option<ByteRange>) -> usize
     ensures { Puts out.old at (lines_text (line_if byte_range_line (opt_range_of r))) out.new result }
 {
     match r {
-        OptRange::Absent => at,
-        OptRange::Present(r) => range_line(out, at, r),
+        None => at,
+        Some(r) => range_line(out, at, r),
     }
 }
 
-fn map_range(out: &mut [u8], at: usize, r: OptRange) -> usize
+fn map_range(out: &mut [u8], at: usize, r: Option<ByteRange>) -> usize
     ensures { Puts out.old at (map_range_bytes (opt_range_of r)) out.new result }
 {
     match r {
-        OptRange::Absent => at,
-        OptRange::Present(r) => {
+        None => at,
+        Some(r) => {
             let value = put::copy(out, at, b",BYTERANGE=\"");
             let end = range_value(out, value, r);
             put::byte(out, end, b'"')
@@ -72,23 +70,23 @@ fn map_line(out: &mut [u8], at: usize, text: &[u8], m: Map) -> usize
     put::byte(out, end, b'\n')
 }
 
-pub(crate) fn map_lines(out: &mut [u8], at: usize, text: &[u8], m: SegmentMap) -> usize
+pub(crate) fn map_lines(out: &mut [u8], at: usize, text: &[u8], m: Option<Map>) -> usize
     ensures { Puts out.old at (lines_text (line_if (map_line_of text.now) (segment_map_of m))) out.new result }
 {
     match m {
-        SegmentMap::Absent => at,
-        SegmentMap::Is(m) => map_line(out, at, text, m),
+        None => at,
+        Some(m) => map_line(out, at, text, m),
     }
 }
 
 // ---- an unknown tag
 
-fn tag_rest(out: &mut [u8], at: usize, text: &[u8], rest: Part) -> usize
+fn tag_rest(out: &mut [u8], at: usize, text: &[u8], rest: Option<Span>) -> usize
     ensures { Puts out.old at (rest_bytes (shown_part text.now (part_of rest))) out.new result }
 {
     match rest {
-        Part::Absent => at,
-        Part::Present(s) => {
+        None => at,
+        Some(s) => {
             let start = put::byte(out, at, b':');
             put::shown(out, start, text, s)
         }
@@ -108,16 +106,16 @@ pub(crate) fn tag_line(out: &mut [u8], at: usize, text: &[u8], t: ExtTag) -> usi
 
 // ---- length, title and URI
 
-fn title(out: &mut [u8], at: usize, text: &[u8], title: Part) -> usize
+fn title(out: &mut [u8], at: usize, text: &[u8], title: Option<Span>) -> usize
     ensures { Puts out.old at (title_text text.now (part_of title)) out.new result }
 {
     match title {
-        Part::Absent => at,
-        Part::Present(s) => put::shown(out, at, text, s),
+        None => at,
+        Some(s) => put::shown(out, at, text, s),
     }
 }
 
-pub(crate) fn extinf_line(out: &mut [u8], at: usize, text: &[u8], ns: u64, name: Part) -> usize
+pub(crate) fn extinf_line(out: &mut [u8], at: usize, text: &[u8], ns: u64, name: Option<Span>) -> usize
     ensures { Puts out.old at (line_bytes (extinf_line ns (title_text text.now (part_of name)))) out.new result }
 {
     let start = put::copy(out, at, b"#EXTINF:");

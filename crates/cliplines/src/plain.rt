@@ -10,7 +10,7 @@ ghost use Rattle.playlist.specs.Lines.{byte_range_line, line_if, lines_text};
 ghost use Rattle.cliplines.specs.Inside.Plain.{Holds, is_plain, plain_text};
 
 use crate::lines;
-use leaves::util::{ByteRange, Offset};
+use leaves::util::ByteRange;
 use tables::{layout, record};
 use text::Span;
 
@@ -57,13 +57,13 @@ fn range_lines(out: &mut [u8], at: usize, flags: u64, length: u64, offset: u64) 
     if record::has_flag(flags, layout::HAS_RANGE_OFFSET) {
         let with_offset = ByteRange {
             length,
-            offset: Offset::At(offset),
+            offset: Some(offset),
         };
         return lines::range_line(out, at, with_offset);
     }
     let alone = ByteRange {
         length,
-        offset: Offset::Absent,
+        offset: None,
     };
     lines::range_line(out, at, alone)
 }

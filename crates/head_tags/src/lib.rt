@@ -162,5 +162,5 @@ pub fn tried_tag(text: &[u8], at: usize) -> IResult<Tag>
 pub fn playlist_tag(text: &[u8], at: usize) -> IResult<Tag>
     ensures { tag_res result ≡ rule.playlist_tag text.now at }
 {
-    tried_tag(text, at).map_err(|_| Why::OtherText)
+    tried_tag(text, at).or(Err(Why::OtherText))
 }

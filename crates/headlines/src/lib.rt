@@ -11,7 +11,7 @@ ghost use Rattle.assembly.specs.Answers.{version_of, head_type_of, head_seen};
 ghost use Rattle.put.specs.Put.{Puts};
 ghost use Rattle.playlist.specs.Lines.{version_line, playlist_type_line, line_bytes, line_if, lines_text, type_line_of, rest_lines, head_lines};
 
-use assembly::head::{Head, HeadType, Version};
+use assembly::head::Head;
 use leaves::basic_tags::PlaylistType;
 use text::Span;
 
@@ -34,12 +34,12 @@ fn sequence_line(out: &mut [u8], at: usize, fixed: &[u8], n: u64) -> usize
     number_line(out, at, fixed, n)
 }
 
-fn version_lines(out: &mut [u8], at: usize, v: Version) -> usize
+fn version_lines(out: &mut [u8], at: usize, v: Option<u64>) -> usize
     ensures { Puts out.old at (lines_text (line_if version_line (version_of v))) out.new result }
 {
     match v {
-        Version::Absent => at,
-        Version::Is(n) => number_line(out, at, b"#EXT-X-VERSION:", n),
+        None => at,
+        Some(n) => number_line(out, at, b"#EXT-X-VERSION:", n),
     }
 }
 
@@ -52,16 +52,14 @@ fn other_type(out: &mut [u8], at: usize, text: &[u8], s: Span) -> usize
     put::byte(out, end, b'\n')
 }
 
-fn type_lines(out: &mut [u8], at: usize, text: &[u8], t: HeadType) -> usize
+fn type_lines(out: &mut [u8], at: usize, text: &[u8], t: Option<PlaylistType>) -> usize
     ensures { Puts out.old at (lines_text (line_if (type_line_of text.now) (head_type_of t))) out.new result }
 {
     match t {
-        HeadType::Absent => at,
-        HeadType::Is(t) => match t {
-            PlaylistType::Event => put::copy(out, at, b"#EXT-X-PLAYLIST-TYPE:EVENT\n"),
-            PlaylistType::Vod => put::copy(out, at, b"#EXT-X-PLAYLIST-TYPE:VOD\n"),
-            PlaylistType::Other(s) => other_type(out, at, text, s),
-        },
+        None => at,
+        Some(PlaylistType::Event) => put::copy(out, at, b"#EXT-X-PLAYLIST-TYPE:EVENT\n"),
+        Some(PlaylistType::Vod) => put::copy(out, at, b"#EXT-X-PLAYLIST-TYPE:VOD\n"),
+        Some(PlaylistType::Other(s)) => other_type(out, at, text, s),
     }
 }
 

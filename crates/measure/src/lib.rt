@@ -6,7 +6,6 @@ ghost use Rattle.assembly.specs.Answers.{head_seen};
 ghost use Rattle.playlist.specs.Calls.{write_to};
 ghost use Rattle.measure.specs.Leave.{refusals, leave_of};
 
-use crate::room::Room;
 use assembly::head::Head;
 use tables::{Refusal, layout};
 
@@ -14,14 +13,7 @@ mod size; // how many bytes each line takes
 mod room; // whether the whole text has room
 mod most; // whether it has by far
 
-// What stands against writing: 01's refusal, at place 0, or nothing.
-#[derive(Clone, Copy)]
-pub enum Leave {
-    Refused(Refusal),
-    Granted,
-}
-
-// What the writer refuses for an output of `room` bytes. The text is measured only where the output is not longer than it could be by far.
+// What the writer refuses, at place 0, for an output of `room` bytes. The text is measured only where the output is not longer than it could be by far.
 pub fn may_write(
     text: &[u8],
     head: Head,
@@ -30,20 +22,20 @@ pub fn may_write(
     tags: &[u64],
     tag_count: usize,
     room: usize,
-) -> Leave
+) -> Result<(), Refusal>
     ensures { leave_of result ≡ refusals (write_to text.now (head_seen head) clips.now clip_count tags.now tag_count room) }
 {
     if layout::TEXT_LIMIT < text.len() {
-        return Leave::Refused(Refusal::TextTooLong);
+        return Err(Refusal::TextTooLong);
     }
     if !rule9::keeps_rule(text, head, clips, clip_count, tags, tag_count) {
-        return Leave::Refused(Refusal::BrokenTable);
+        return Err(Refusal::BrokenTable);
     }
-    if let Room::Left(_) = most::whole_left(head, clips, clip_count, tags, tag_count, room) {
-        return Leave::Granted;
+    if most::whole_left(head, clips, clip_count, tags, tag_count, room).is_some() {
+        return Ok(());
     }
     match room::whole_room(head, clips, clip_count, tags, tag_count, room) {
-        Room::Left(_) => Leave::Granted,
-        Room::Short => Leave::Refused(Refusal::OutputShort),
+        Some(_) => Ok(()),
+        None => Err(Refusal::OutputShort),
     }
 }

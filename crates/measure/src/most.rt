@@ -11,7 +11,6 @@ ghost use Rattle.measure.specs.Inside.Below.{TypeBelow, TagsBelow, RunsWithin, W
 ghost use Rattle.measure.specs.Inside.Sizes.{clip_size, full_size, clips_size, whole_size};
 ghost use Rattle.measure.specs.Inside.Room.{room_of, Leaves};
 
-use crate::room::Room;
 use crate::{room, size};
 use assembly::head::Head;
 use tables::{layout, record};
@@ -67,7 +66,7 @@ fn clip_most(clips: &[u64], k: usize) -> usize
 }
 
 // After clip k.
-fn clip_left(clips: &[u64], k: usize, tags: &[u64], tag_count: usize, room: usize) -> Room
+fn clip_left(clips: &[u64], k: usize, tags: &[u64], tag_count: usize, room: usize) -> Option<usize>
     requires holds { Holds clips.now k }
     requires words_below { WordsBelow text_limit clips.now k }
     requires tag_count_bound { clip_word clips.now k layout.first_tag + clip_word clips.now k layout.tag_count ≤ tag_count }
@@ -76,7 +75,7 @@ fn clip_left(clips: &[u64], k: usize, tags: &[u64], tag_count: usize, room: usiz
 {
     let own = clip_most(clips, k);
     if room < own {
-        return Room::Short;
+        return None;
     }
     let first = held_word(clips, k, layout::FIRST_TAG);
     let count = held_word(clips, k, layout::TAG_COUNT);
@@ -84,7 +83,7 @@ fn clip_left(clips: &[u64], k: usize, tags: &[u64], tag_count: usize, room: usiz
 }
 
 // After all clips.
-fn clips_left(clips: &[u64], clip_count: usize, tags: &[u64], tag_count: usize, room: usize) -> Room
+fn clips_left(clips: &[u64], clip_count: usize, tags: &[u64], tag_count: usize, room: usize) -> Option<usize>
     requires clip_words_in_bounds { clip_count * layout.clip_words ≤ length clips.now }
     requires table_below { TableBelow text_limit clips.now clip_count }
     requires runs_within { RunsWithin clips.now clip_count tag_count }
@@ -92,19 +91,10 @@ fn clips_left(clips: &[u64], clip_count: usize, tags: &[u64], tag_count: usize, 
     ensures { Leaves room (clips_size tags.now (clips_at clips.now clip_count)) (room_of result) }
 {
     let mut left = room;
-    let mut k: usize = 0;
-    while k < clip_count {
-        match clip_left(clips, k, tags, tag_count, left) {
-            Room::Left(more) => {
-                left = more;
-            }
-            Room::Short => {
-                return Room::Short;
-            }
-        }
-        k += 1;
+    for k in 0..clip_count {
+        left = clip_left(clips, k, tags, tag_count, left)?;
     }
-    Room::Left(left)
+    Some(left)
 }
 
 // After the whole text.
@@ -115,7 +105,7 @@ pub(crate) fn whole_left(
     tags: &[u64],
     tag_count: usize,
     room: usize,
-) -> Room
+) -> Option<usize>
     requires type_below { TypeBelow text_limit (head_type_of h.playlist_type) }
     requires clip_words_in_bounds { clip_count * layout.clip_words ≤ length clips.now }
     requires table_below { TableBelow text_limit clips.now clip_count }
@@ -127,7 +117,7 @@ pub(crate) fn whole_left(
     let end = size::mark_size(size::END_LINE, h.end_list);
     let ends = head + end;
     if room < ends {
-        return Room::Short;
+        return None;
     }
     clips_left(clips, clip_count, tags, tag_count, room - ends)
 }

@@ -13,82 +13,51 @@ use crate::size;
 use assembly::Clip;
 use assembly::head::Head;
 
-#[derive(Clone, Copy)]
-pub(crate) enum Room {
-    Left(usize),
-    Short,
-}
-
-fn room_for(room: usize, n: usize) -> Room
+fn room_for(room: usize, n: usize) -> Option<usize>
     ensures { room_of result ≡ room_for room n }
 {
-    if n <= room {
-        return Room::Left(room - n);
-    }
-    Room::Short
+    room.checked_sub(n)
 }
 
 // After `count` unknown tags from tag `first` on.
-pub(crate) fn tags_room(tags: &[u64], first: usize, count: usize, room: usize) -> Room
+pub(crate) fn tags_room(tags: &[u64], first: usize, count: usize, room: usize) -> Option<usize>
     requires count_bound { first + count < 2 ^ 64 }
     requires tags_below { TagsBelow text_limit tags.now (first + count) }
     ensures { room_of result ≡ room_for room (tags_size (listed (tag_at tags.now) first count)) }
 {
     let end = first + count;
     let mut left = room;
-    let mut k = first;
-    while k < end {
+    for k in first..end {
         let t = records::tag_at(tags, k);
-        let n = size::tag_size(t);
-        match room_for(left, n) {
-            Room::Left(more) => {
-                left = more;
-            }
-            Room::Short => {
-                return Room::Short;
-            }
-        }
-        k += 1;
+        left = room_for(left, size::tag_size(t))?;
     }
-    Room::Left(left)
+    Some(left)
 }
 
 // After one clip.
-fn clip_room(tags: &[u64], tag_count: usize, c: Clip, room: usize) -> Room
+fn clip_room(tags: &[u64], tag_count: usize, c: Clip, room: usize) -> Option<usize>
     requires count_bound { c.first + c.count ≤ tag_count }
     requires tags_below { TagsBelow text_limit tags.now tag_count }
     requires clip_below { ClipBelow text_limit (clip_seen c) }
     ensures { room_of result ≡ room_for room (full_size tags.now (clip_seen c)) }
 {
-    let own = size::clip_size(c);
-    match room_for(room, own) {
-        Room::Left(left) => tags_room(tags, c.first, c.count, left),
-        Room::Short => Room::Short,
-    }
+    let left = room_for(room, size::clip_size(c))?;
+    tags_room(tags, c.first, c.count, left)
 }
 
 // After all clips.
-fn clips_room(clips: &[u64], clip_count: usize, tags: &[u64], tag_count: usize, room: usize) -> Room
+fn clips_room(clips: &[u64], clip_count: usize, tags: &[u64], tag_count: usize, room: usize) -> Option<usize>
     requires runs_within { RunsWithin clips.now clip_count tag_count }
     requires tags_below { TagsBelow text_limit tags.now tag_count }
     requires clips_below { ClipsBelow text_limit clips.now clip_count }
     ensures { room_of result ≡ room_for room (clips_size tags.now (clips_at clips.now clip_count)) }
 {
     let mut left = room;
-    let mut k: usize = 0;
-    while k < clip_count {
+    for k in 0..clip_count {
         let c = records::clip_at(clips, k);
-        match clip_room(tags, tag_count, c, left) {
-            Room::Left(more) => {
-                left = more;
-            }
-            Room::Short => {
-                return Room::Short;
-            }
-        }
-        k += 1;
+        left = clip_room(tags, tag_count, c, left)?;
     }
-    Room::Left(left)
+    Some(left)
 }
 
 // After the whole text.
@@ -99,7 +68,7 @@ pub(crate) fn whole_room(
     tags: &[u64],
     tag_count: usize,
     room: usize,
-) -> Room
+) -> Option<usize>
     requires type_below { TypeBelow text_limit (head_type_of h.playlist_type) }
     requires runs_within { RunsWithin clips.now clip_count tag_count }
     requires tags_below { TagsBelow text_limit tags.now tag_count }
@@ -108,8 +77,6 @@ pub(crate) fn whole_room(
 {
     let head = size::head_size(h);
     let end = size::mark_size(size::END_LINE, h.end_list);
-    match room_for(room, head + end) {
-        Room::Left(left) => clips_room(clips, clip_count, tags, tag_count, left),
-        Room::Short => Room::Short,
-    }
+    let left = room_for(room, head + end)?;
+    clips_room(clips, clip_count, tags, tag_count, left)
 }

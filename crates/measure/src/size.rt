@@ -12,13 +12,12 @@ ghost use Rattle.measure.specs.Inside.Below.{PartBelow, TypeBelow, MapBelow, Tag
 ghost use Rattle.measure.specs.Inside.Sizes.{part_size, range_size, type_size, head_size, map_size, tag_size, clip_size};
 
 use assembly::Clip;
-use assembly::head::{Head, HeadType, Version};
-use assembly::segment::SegmentMap;
-use attributes::ext_map::OptRange;
+use assembly::head::Head;
+use attributes::ext_map::Map;
 use digits::{length_size, number_size};
 use leaves::basic_tags::{ExtTag, PlaylistType};
-use leaves::util::{ByteRange, Offset};
-use text::Part;
+use leaves::util::ByteRange;
+use text::Span;
 
 // ---- what lines hold besides their values
 
@@ -86,15 +85,15 @@ fn sequence_size(around: usize, n: u64) -> usize
 }
 
 // A part of the text.
-fn part_size(around: usize, part: Part) -> usize
+fn part_size(around: usize, part: Option<Span>) -> usize
     requires around_bound { around ≤ 40 }
     requires part_below { PartBelow text_limit (part_of part) }
     ensures size { result ≡ part_size around (part_of part) }
     ensures most { result ≤ text_limit + 40 }
 {
     match part {
-        Part::Absent => 0,
-        Part::Present(s) => around + (s.end - s.start),
+        None => 0,
+        Some(s) => around + (s.end - s.start),
     }
 }
 
@@ -103,51 +102,48 @@ fn range_value_size(r: ByteRange) -> usize
     ensures most { result ≤ 41 }
 {
     let length = number_size(r.length);
-    let offset = r.offset;
-    match offset {
-        Offset::Absent => length,
-        Offset::At(o) => {
+    match r.offset {
+        None => length,
+        Some(o) => {
             let value = number_size(o);
             length + 1 + value
         }
     }
 }
 
-fn range_size(around: usize, r: OptRange) -> usize
+fn range_size(around: usize, r: Option<ByteRange>) -> usize
     requires { around ≤ 40 }
     ensures size { result ≡ range_size around (opt_range_of r) }
     ensures most { result ≤ 81 }
 {
     match r {
-        OptRange::Absent => 0,
-        OptRange::Present(r) => around + range_value_size(r),
+        None => 0,
+        Some(r) => around + range_value_size(r),
     }
 }
 
 // ---- a head
 
-fn version_size(v: Version) -> usize
+fn version_size(v: Option<u64>) -> usize
     ensures size { result ≡ length (lines_text (line_if version_line (version_of v))) }
     ensures most { result ≤ 61 }
 {
     match v {
-        Version::Absent => 0,
-        Version::Is(n) => VERSION_LINE + number_size(n),
+        None => 0,
+        Some(n) => VERSION_LINE + number_size(n),
     }
 }
 
-fn type_size(t: HeadType) -> usize
+fn type_size(t: Option<PlaylistType>) -> usize
     requires { TypeBelow text_limit (head_type_of t) }
     ensures size { result ≡ type_size (head_type_of t) }
     ensures most { result ≤ text_limit + 40 }
 {
     match t {
-        HeadType::Absent => 0,
-        HeadType::Is(t) => match t {
-            PlaylistType::Event => TYPE_LINE + EVENT,
-            PlaylistType::Vod => TYPE_LINE + VOD,
-            PlaylistType::Other(s) => TYPE_LINE + (s.end - s.start),
-        },
+        None => 0,
+        Some(PlaylistType::Event) => TYPE_LINE + EVENT,
+        Some(PlaylistType::Vod) => TYPE_LINE + VOD,
+        Some(PlaylistType::Other(s)) => TYPE_LINE + (s.end - s.start),
     }
 }
 
@@ -170,14 +166,14 @@ pub(crate) fn head_size(h: Head) -> usize
 
 // ---- a clip
 
-fn map_size(m: SegmentMap) -> usize
+fn map_size(m: Option<Map>) -> usize
     requires { MapBelow text_limit (segment_map_of m) }
     ensures size { result ≡ map_size (segment_map_of m) }
     ensures most { result ≤ text_limit + 100 }
 {
     match m {
-        SegmentMap::Absent => 0,
-        SegmentMap::Is(m) => {
+        None => 0,
+        Some(m) => {
             let uri = m.uri;
             let range = m.byte_range;
             let behind = range_size(MAP_RANGE, range);

@@ -15,12 +15,9 @@ fn lay(out: &mut [u8], at: usize, from: &[u8]) -> usize
     requires { Room out.old at from.now }
     ensures { Puts out.old at from.now out.new result }
 {
-    let mut k = 0;
-    while k < from.len() {
-        out[at + k] = from[k];
-        k += 1;
-    }
-    at + k
+    let end = at + from.len();
+    out[at..end].copy_from_slice(from);
+    end
 }
 
 // As many of them as have room.

@@ -4,28 +4,21 @@ use mathlib.Core.Path.{◌≡◌, refl, ap}
 use mathlib.Core.List.{List}
 use Rattle.leaves.specs.Answers.{ext_tag_of}
 use Rattle.leaves.specs.declared.basic_tags.ExtTag as extᵈ
-use Rattle.text.proofs.Only.{Only, no_second, span_only, part_only}
-use Rattle.leaves.proofs.Only.{byte_range_only, ext_tag_only}
-use Rattle.attributes.specs.declared.ext_map.OptRange.TheVariants as rangeᵛ
-use Rattle.attributes.specs.Answers.{opt_range_of}
-use Rattle.attributes.proofs.Only.{map_only}
-use Rattle.assembly.specs.declared.segment.SegmentMap.TheVariants as mapᵛ
+use Rattle.text.proofs.Only.{Only, no_second, perhaps_only, span_only, part_only}
+use Rattle.leaves.specs.Answers.{byte_range_of}
+use Rattle.leaves.proofs.Only.{byte_range_back, byte_range_back_lem, ext_tag_only}
+use Rattle.attributes.specs.Answers.{opt_range_of, map_of}
+use Rattle.attributes.proofs.Only.{map_back, map_back_lem}
 use Rattle.assembly.specs.declared.Clip as clipᵈ
 use Rattle.assembly.specs.Assembly.{Segment, Clip}
 use Rattle.assembly.specs.Answers.{segment_map_of, segment_seen, clip_seen}
 use Rattle.records.specs.Records.{clip_at, tag_at}
 
 range_only : Only opt_range_of
-range_only rangeᵛ.Absent rangeᵛ.Absent e = refl
-range_only rangeᵛ.Absent (rangeᵛ.Present s) e = cc
-range_only (rangeᵛ.Present r) rangeᵛ.Absent e = cc
-range_only (rangeᵛ.Present r) (rangeᵛ.Present s) e = ap rangeᵛ.Present (byte_range_only r s (cc))
+range_only = perhaps_only byte_range_of byte_range_back byte_range_back_lem
 
 segment_map_only : Only segment_map_of
-segment_map_only mapᵛ.Absent mapᵛ.Absent e = refl
-segment_map_only mapᵛ.Absent (mapᵛ.Is n) e = cc
-segment_map_only (mapᵛ.Is m) mapᵛ.Absent e = cc
-segment_map_only (mapᵛ.Is m) (mapᵛ.Is n) e = ap mapᵛ.Is (map_only m n (cc))
+segment_map_only = perhaps_only map_of map_back_lem map_back
 
 pub segment_only : Only segment_seen
 segment_only a b e =

@@ -13,46 +13,43 @@ ghost use Rattle.assembly.specs.Answers.{segment_map_of, clip_seen};
 ghost use Rattle.records.specs.Records as rule;
 
 use assembly::Clip;
-use assembly::segment::{Segment, SegmentMap};
-use attributes::ext_map::{Map, OptRange};
+use assembly::segment::Segment;
+use attributes::ext_map::Map;
 use leaves::basic_tags::ExtTag;
-use leaves::util::{ByteRange, Offset};
+use leaves::util::ByteRange;
 use tables::{layout, record};
-use text::{Part, Span};
+use text::Span;
 
 // A title or a rest is there unless both its words are zero.
-fn part_at(start: u64, end: u64) -> Part
+fn part_at(start: u64, end: u64) -> Option<Span>
     ensures { part_of result ≡ rule.part_at start end }
 {
     if start == 0 {
         if end == 0 {
-            return Part::Absent;
+            return None;
         }
     }
-    Part::Present(Span {
+    Some(Span {
         start: start as usize,
         end: end as usize,
     })
 }
 
-fn offset_at(flags: u64, flag: u64, offset: u64) -> Offset
+fn offset_at(flags: u64, flag: u64, offset: u64) -> Option<u64>
     ensures { offset_of result ≡ rule.optional (has_flag flags flag) offset }
 {
-    if record::has_flag(flags, flag) {
-        return Offset::At(offset);
-    }
-    Offset::Absent
+    record::has_flag(flags, flag).then_some(offset)
 }
 
 // `present` is the flag of the range, `with_offset` that of its offset.
-fn range_at(flags: u64, present: u64, with_offset: u64, length: u64, offset: u64) -> OptRange
+fn range_at(flags: u64, present: u64, with_offset: u64, length: u64, offset: u64) -> Option<ByteRange>
     ensures { opt_range_of result ≡ rule.range_at flags present with_offset length offset }
 {
     if !record::has_flag(flags, present) {
-        return OptRange::Absent;
+        return None;
     }
     let offset = offset_at(flags, with_offset, offset);
-    OptRange::Present(ByteRange { length, offset })
+    Some(ByteRange { length, offset })
 }
 
 // The span whose words stand at two places of a clip. A clip's words alone are a table of one clip.
@@ -69,12 +66,12 @@ fn clip_span(words: &[u64; layout::CLIP_WORDS], start: usize, end: usize) -> Spa
     }
 }
 
-fn map_at(words: &[u64; layout::CLIP_WORDS]) -> SegmentMap
+fn map_at(words: &[u64; layout::CLIP_WORDS]) -> Option<Map>
     ensures { segment_map_of result ≡ rule.map_at words.now 0 }
 {
     let flags = words[layout::FLAGS];
     if !record::has_flag(flags, layout::HAS_MAP) {
-        return SegmentMap::Absent;
+        return None;
     }
     let uri = clip_span(words, layout::MAP_URI_START, layout::MAP_URI_END);
     let list = clip_span(words, layout::MAP_LIST_START, layout::MAP_LIST_END);
@@ -87,14 +84,14 @@ fn map_at(words: &[u64; layout::CLIP_WORDS]) -> SegmentMap
         length,
         offset,
     );
-    SegmentMap::Is(Map {
+    Some(Map {
         uri,
         byte_range,
         list,
     })
 }
 
-fn title_at(words: &[u64; layout::CLIP_WORDS]) -> Part
+fn title_at(words: &[u64; layout::CLIP_WORDS]) -> Option<Span>
     ensures { part_of result ≡ rule.part_at (clip_word words.now 0 layout.title_start) (clip_word words.now 0 layout.title_end) }
 {
     let start = words[layout::TITLE_START];

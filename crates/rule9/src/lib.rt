@@ -11,7 +11,7 @@ ghost use Rattle.assembly.specs.Answers.{head_seen};
 ghost use Rattle.rule9.specs.Rule9 as rule;
 ghost use Rattle.rule9.specs.Inside.Held.{Holds, zero_words};
 
-use assembly::head::{Head, HeadType};
+use assembly::head::Head;
 use leaves::basic_tags::PlaylistType;
 use lengths::binary32;
 use tables::{layout, record};
@@ -20,14 +20,9 @@ use tables::{layout, record};
 fn head_fits(text: &[u8], head: Head) -> bool
     ensures { result ≡ rule.head_fits text.now (head_seen head) }
 {
-    let t = head.playlist_type;
-    match t {
-        HeadType::Absent => true,
-        HeadType::Is(t) => match t {
-            PlaylistType::Event => true,
-            PlaylistType::Vod => true,
-            PlaylistType::Other(s) => scan::span_fits(text, s.start as u64, s.end as u64),
-        },
+    match head.playlist_type {
+        Some(PlaylistType::Other(s)) => scan::span_fits(text, s.start as u64, s.end as u64),
+        _ => true,
     }
 }
 
@@ -134,11 +129,9 @@ fn zero_words(clips: &[u64], k: usize, from: usize, to: usize) -> bool
     ensures { result ≡ zero_words clips.now k from to }
 {
     let mut zeros = true;
-    let mut place = from;
-    while place < to {
+    for place in from..to {
         let word = held_word(clips, k, place);
         zeros = zeros & (word == 0);
-        place += 1;
     }
     zeros
 }
@@ -176,8 +169,7 @@ fn clips_keep(text: &[u8], clips: &[u64], clip_count: usize, tag_count: u64) -> 
     ensures { result ≡ every (rule.clip_keeps text.now clips.now) clip_count && rule.runs_adjoin clips.now clip_count tag_count }
 {
     let mut first: u64 = 0;
-    let mut k: usize = 0;
-    while k < clip_count {
+    for k in 0..clip_count {
         if !clip_keeps(text, clips, k) {
             return false;
         }
@@ -191,7 +183,6 @@ fn clips_keep(text: &[u8], clips: &[u64], clip_count: usize, tag_count: u64) -> 
             return false;
         }
         first += count;
-        k += 1;
     }
     first == tag_count
 }
@@ -199,12 +190,10 @@ fn clips_keep(text: &[u8], clips: &[u64], clip_count: usize, tag_count: u64) -> 
 fn tags_keep(text: &[u8], tags: &[u64], tag_count: usize) -> bool
     ensures { result ≡ every (rule.tag_keeps text.now tags.now) tag_count }
 {
-    let mut k: usize = 0;
-    while k < tag_count {
+    for k in 0..tag_count {
         if !tag_keeps(text, tags, k) {
             return false;
         }
-        k += 1;
     }
     true
 }

@@ -1,6 +1,5 @@
 -- No second answer meets a contract: from what an answer says there is a way back to it, as in text's `Only`. Assumes nothing.
 use mathlib.Core.Path.{◌≡◌, refl, ap}
-use Rattle.text.specs.Nom.{Res, fail, ok}
 use Rattle.text.proofs.Only.{Only, only_by, res_only, span_back, part_back, part_back_lem}
 use Rattle.leaves.proofs.Only.{byte_range_back, byte_range_back_lem, ext_tag_back, ext_tag_back_lem, type_back, type_back_lem}
 use Rattle.attributes.proofs.Only.{map_back_lem, map_back}

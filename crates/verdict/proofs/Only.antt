@@ -2,14 +2,12 @@
 use mathlib.Core.Bool.{Bool}
 use mathlib.Core.Path.{◌≡◌, refl}
 use Rattle.text.proofs.Only.{Only, only_by}
-use Rattle.tables.specs.Refusal.{Answer, refused, given}
-use Rattle.tables.proofs.Refusals.{named, named_back}
+use Rattle.std.specs.Prelude.{Result, ⊤}
+use Rattle.tables.specs.declared.Refused as refusedᵈ
+use Rattle.tables.specs.Refusal.{Answer}
+use Rattle.tables.proofs.Refusals.{answer_at_only}
 use Rattle.verdict.specs.declared.lines.Verdict as verdictᵈ
 use Rattle.verdict.specs.declared.lines.Verdict.TheVariants as verdictᵛ
-use Rattle.verdict.specs.declared.Admission.{Admission}
-use Rattle.verdict.specs.declared.Admission.TheVariants as admissionᵛ
-use Rattle.verdict.specs.declared.MasterAnswer.{MasterAnswer}
-use Rattle.verdict.specs.declared.MasterAnswer.TheVariants as masterᵛ
 use Rattle.verdict.specs.Verdict.{Verdict, master, media}
 use Rattle.verdict.specs.Answers.{verdict_seen, admission, master_answer}
 
@@ -26,25 +24,12 @@ pub verdict_only : Only verdict_seen
 verdict_only = only_by verdict_seen verdict_back verdict_back_lem
 
 -- `admit`
-abbrev admission_back : Answer (Unit {0}) → Admission
-admission_back (refused r p) = admissionᵛ.Refused (named r) p
-admission_back (given _) = admissionᵛ.Admitted
+abbrev passed_back : Unit {0} → ⊤
+passed_back u = tt
 
-admission_back_lem : (a : Admission) → admission_back (admission a) ≡ a
-admission_back_lem (admissionᵛ.Refused r p) = rw (named_back r)
-admission_back_lem admissionᵛ.Admitted = refl
-
-pub admission_only : Only admission
-admission_only = only_by admission admission_back admission_back_lem
+pub admission_only : (x : Answer (Unit {0})) (a b : Result ⊤ refusedᵈ.Refused) → admission a ≡ x → admission b ≡ x → a ≡ b
+admission_only = answer_at_only (λ (u : ⊤). tt) passed_back (λ u. refl)
 
 -- `is_master_playlist`
-abbrev master_back : Answer Bool → MasterAnswer
-master_back (refused r p) = masterᵛ.Refused (named r) p
-master_back (given m) = masterᵛ.Given m
-
-master_back_lem : (a : MasterAnswer) → master_back (master_answer a) ≡ a
-master_back_lem (masterᵛ.Refused r p) = rw (named_back r)
-master_back_lem (masterᵛ.Given m) = refl
-
-pub master_only : Only master_answer
-master_only = only_by master_answer master_back master_back_lem
+pub master_only : (x : Answer Bool) (a b : Result Bool refusedᵈ.Refused) → master_answer a ≡ x → master_answer b ≡ x → a ≡ b
+master_only = answer_at_only (λ (m : Bool). m) (λ m. m) (λ m. refl)

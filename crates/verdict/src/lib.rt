@@ -6,33 +6,29 @@ ghost use Rattle.std.specs.Prelude.{◌≡◌};
 ghost use Rattle.verdict.specs.Calls as rule;
 ghost use Rattle.verdict.specs.Answers.{admission, master_answer, verdict_seen};
 
-use tables::{Refusal, layout};
+use tables::{Refusal, Refused, layout};
 
 pub mod lines; // line by line, until one tells
 mod quiet; // lines that say nothing
 
-#[derive(Clone, Copy)]
-pub enum Admission {
-    Refused(Refusal, usize),
-    Admitted,
-}
-
 // Refusals 1, 2 and 3, in that order.
-pub fn admit(text: &[u8]) -> Admission
+pub fn admit(text: &[u8]) -> Result<(), Refused>
     ensures { admission result ≡ rule.admitted text.now }
 {
     if layout::TEXT_LIMIT < text.len() {
-        return Admission::Refused(Refusal::TextTooLong, 0);
+        return Err(Refused::from(Refusal::TextTooLong));
     }
     let end = utf8::utf8_end(text);
     if end != text.len() {
-        return Admission::Refused(Refusal::NotUtf8, end);
+        return Err(Refused {
+            refusal: Refusal::NotUtf8,
+            place: end,
+        });
     }
-    if scan::starts_with(text, 0, b"#EXTM3U") {
-        Admission::Admitted
-    } else {
-        Admission::Refused(Refusal::NoHeader, 0)
+    if !scan::starts_with(text, 0, b"#EXTM3U") {
+        return Err(Refused::from(Refusal::NoHeader));
     }
+    Ok(())
 }
 
 // The verdict on a text that begins with `#EXTM3U`.
@@ -42,21 +38,13 @@ pub fn verdict_of(text: &[u8]) -> lines::Verdict
     lines::verdict_from(text, 7)
 }
 
-#[derive(Clone, Copy)]
-pub enum MasterAnswer {
-    Refused(Refusal, usize),
-    Given(bool),
-}
-
 // Whether a text is a master playlist.
-pub fn is_master_playlist(text: &[u8]) -> MasterAnswer
+pub fn is_master_playlist(text: &[u8]) -> Result<bool, Refused>
     ensures { master_answer result ≡ rule.is_master_playlist text.now }
 {
-    match admit(text) {
-        Admission::Refused(r, place) => MasterAnswer::Refused(r, place),
-        Admission::Admitted => match verdict_of(text) {
-            lines::Verdict::Master(_) => MasterAnswer::Given(true),
-            lines::Verdict::Media => MasterAnswer::Given(false),
-        },
+    admit(text)?;
+    match verdict_of(text) {
+        lines::Verdict::Master(_) => Ok(true),
+        lines::Verdict::Media => Ok(false),
     }
 }

@@ -9,42 +9,38 @@ ghost use Rattle.verdict.specs.Answers.{kind_res, opt_kind, says_of, line_res, v
 
 use crate::quiet;
 use leaves::util;
-use text::{SpanRes, Why};
+use text::{IResult, Why};
 
-// A tag's kind (master: true), and the place after it.
-#[derive(Clone, Copy)]
-enum KindRes {
-    Fail(Why),
-    Ok(bool, usize),
-}
-
-fn named(text: &[u8], at: usize, name: &[u8], kind: bool) -> KindRes
+// A name, and the kind of its tag (master: true).
+fn named(text: &[u8], at: usize, name: &[u8], kind: bool) -> IResult<bool>
     ensures { kind_res result ≡ found (fixed name.now kind ∷ []) text.now at }
 {
     if scan::starts_with(text, at, name) {
-        KindRes::Ok(kind, at + name.len())
+        Ok((kind, at + name.len()))
     } else {
-        KindRes::Fail(Why::OtherText)
+        Err(Why::OtherText)
     }
 }
 
-impl KindRes {
-    // This name, where none before it is there.
-    fn or(self, text: &[u8], at: usize, name: &[u8], kind: bool) -> KindRes
-        ensures { kind_res result ≡ or_row (kind_res self) (fixed name.now kind) text.now at }
-    {
-        match self {
-            KindRes::Ok(found, after) => KindRes::Ok(found, after),
-            KindRes::Fail(_) => named(text, at, name, kind),
-        }
-    }
+// This name, where none before it is there.
+fn or_named(found: IResult<bool>, text: &[u8], at: usize, name: &[u8], kind: bool) -> IResult<bool>
+    ensures { kind_res result ≡ or_row (kind_res found) (fixed name.now kind) text.now at }
+{
+    found.or_else(|_| named(text, at, name, kind))
 }
 
 // The first of two names that is there.
-fn either(text: &[u8], at: usize, first: &[u8], kind: bool, second: &[u8], other: bool) -> KindRes
+fn either(
+    text: &[u8],
+    at: usize,
+    first: &[u8],
+    kind: bool,
+    second: &[u8],
+    other: bool,
+) -> IResult<bool>
     ensures { kind_res result ≡ found (fixed first.now kind ∷ fixed second.now other ∷ []) text.now at }
 {
-    named(text, at, first, kind).or(text, at, second, other)
+    or_named(named(text, at, first, kind), text, at, second, other)
 }
 
 // The first of three names of one kind.
@@ -55,14 +51,15 @@ fn one_of_three(
     second: &[u8],
     third: &[u8],
     kind: bool,
-) -> KindRes
+) -> IResult<bool>
     ensures { kind_res result ≡ found (fixed first.now kind ∷ fixed second.now kind ∷ fixed third.now kind ∷ []) text.now at }
 {
-    either(text, at, first, kind, second, kind).or(text, at, third, kind)
+    let found = either(text, at, first, kind, second, kind);
+    or_named(found, text, at, third, kind)
 }
 
 // The run after `#EXT-X-MEDIA` goes to the next `-`, across lines.
-fn group_tag(text: &[u8], at: usize) -> KindRes
+fn group_tag(text: &[u8], at: usize) -> IResult<bool>
     ensures { kind_res result ≡ found (media_name ∷ []) text.now at }
 {
     let name = b"#EXT-X-MEDIA";
@@ -70,14 +67,14 @@ fn group_tag(text: &[u8], at: usize) -> KindRes
         let after = at + name.len();
         let dash = blocks::find_one(text, after, b'-');
         if after < dash {
-            return KindRes::Ok(true, dash);
+            return Ok((true, dash));
         }
-        return KindRes::Fail(Why::MissingByte);
+        return Err(Why::MissingByte);
     }
-    KindRes::Fail(Why::OtherText)
+    Err(Why::OtherText)
 }
 
-fn stream_or_session_tag(text: &[u8], at: usize) -> KindRes
+fn stream_or_session_tag(text: &[u8], at: usize) -> IResult<bool>
     ensures { kind_res result ≡ lettered "S" text.now at }
 {
     one_of_three(
@@ -90,7 +87,7 @@ fn stream_or_session_tag(text: &[u8], at: usize) -> KindRes
     )
 }
 
-fn frames_tag(text: &[u8], at: usize) -> KindRes
+fn frames_tag(text: &[u8], at: usize) -> IResult<bool>
     ensures { kind_res result ≡ lettered "I" text.now at }
 {
     either(
@@ -103,15 +100,15 @@ fn frames_tag(text: &[u8], at: usize) -> KindRes
     )
 }
 
-fn media_or_map_tag(text: &[u8], at: usize) -> KindRes
+fn media_or_map_tag(text: &[u8], at: usize) -> IResult<bool>
     ensures { kind_res result ≡ lettered "M" text.now at }
 {
-    group_tag(text, at)
-        .or(text, at, b"#EXT-X-MEDIA-SEQUENCE", false)
-        .or(text, at, b"#EXT-X-MAP", false)
+    let found = group_tag(text, at);
+    let found = or_named(found, text, at, b"#EXT-X-MEDIA-SEQUENCE", false);
+    or_named(found, text, at, b"#EXT-X-MAP", false)
 }
 
-fn break_or_dates_tag(text: &[u8], at: usize) -> KindRes
+fn break_or_dates_tag(text: &[u8], at: usize) -> IResult<bool>
     ensures { kind_res result ≡ lettered "D" text.now at }
 {
     one_of_three(
@@ -124,7 +121,7 @@ fn break_or_dates_tag(text: &[u8], at: usize) -> KindRes
     )
 }
 
-fn type_or_time_tag(text: &[u8], at: usize) -> KindRes
+fn type_or_time_tag(text: &[u8], at: usize) -> IResult<bool>
     ensures { kind_res result ≡ lettered "P" text.now at }
 {
     either(
@@ -138,7 +135,7 @@ fn type_or_time_tag(text: &[u8], at: usize) -> KindRes
 }
 
 // The names that begin with `#EXT-X-`: only those of the letter behind it are tried.
-fn lettered_tag(text: &[u8], at: usize) -> KindRes
+fn lettered_tag(text: &[u8], at: usize) -> IResult<bool>
     requires { HasAt 4 "-" text.now at }
     ensures { opt_kind at result ≡ opt (alt rule.master_kind rule.media_kind) text.now at }
 {
@@ -152,58 +149,44 @@ fn lettered_tag(text: &[u8], at: usize) -> KindRes
         b'E' => named(text, at, b"#EXT-X-ENDLIST", false),
         b'B' => named(text, at, b"#EXT-X-BYTERANGE", false),
         b'K' => named(text, at, b"#EXT-X-KEY", false),
-        _ => KindRes::Fail(Why::OtherText),
+        _ => Err(Why::OtherText),
     }
 }
 
 // At place 4 `#EXTINF` has an `I` and the others have a `-`; most lines are no tags, and have another byte there.
-fn tag_kind(text: &[u8], at: usize) -> KindRes
+fn tag_kind(text: &[u8], at: usize) -> IResult<bool>
     ensures { opt_kind at result ≡ opt (alt rule.master_kind rule.media_kind) text.now at }
 {
     match scan::byte_at(text, at, 4) {
         b'I' => named(text, at, b"#EXTINF", false),
         b'-' => lettered_tag(text, at),
-        _ => KindRes::Fail(Why::OtherText),
+        _ => Err(Why::OtherText),
     }
 }
 
-// What a line says, with the place of its `#`.
-#[derive(Clone, Copy)]
-pub enum Says {
-    Nothing,
-    Decides(bool, usize),
-}
-
-#[derive(Clone, Copy)]
-pub enum LineRes {
-    Fail(Why),
-    Ok(Says, usize),
-}
-
-// What a line says counts only where the rest of it can be taken.
-fn with_rest(text: &[u8], at: usize, says: Says) -> LineRes
+// What a line says is a kind and the place of its `#`, or nothing. It counts only where the rest of the line can be taken.
+fn with_rest(text: &[u8], at: usize, says: Option<(bool, usize)>) -> IResult<Option<(bool, usize)>>
     ensures { line_res result ≡ map (λ _. says_of says) consume_line text.now at }
 {
-    match util::consume_line(text, at) {
-        SpanRes::Ok(_, after) => LineRes::Ok(says, after),
-        SpanRes::Fail(why) => LineRes::Fail(why),
-    }
+    let (_, after) = util::consume_line(text, at)?;
+    Ok((says, after))
 }
 
 // Only CRs and LFs are skipped before a tag: a line that begins with a blank says nothing.
-pub fn is_master_playlist_tag_line(text: &[u8], at: usize) -> LineRes
+pub fn is_master_playlist_tag_line(text: &[u8], at: usize) -> IResult<Option<(bool, usize)>>
     ensures { line_res result ≡ rule.is_master_playlist_tag_line text.now at }
 {
     if text.len() <= at {
-        return LineRes::Fail(Why::MissingByte);
+        return Err(Why::MissingByte);
     }
     let hash = blocks::while_two(text, at, b'\r', b'\n');
     match tag_kind(text, hash) {
-        KindRes::Ok(kind, after) => with_rest(text, after, Says::Decides(kind, hash)),
-        KindRes::Fail(_) => with_rest(text, hash, Says::Nothing),
+        Ok((kind, after)) => with_rest(text, after, Some((kind, hash))),
+        Err(_) => with_rest(text, hash, None),
     }
 }
 
+// Media is an answer, and no lack of one: so this is no `Option` of the place that tells master.
 #[derive(Clone, Copy)]
 pub enum Verdict {
     Master(usize),
@@ -217,21 +200,17 @@ pub fn verdict_from(text: &[u8], at: usize) -> Verdict
     let mut at = at;
     loop {
         let line = quiet::quiet_end(text, at);
-        match is_master_playlist_tag_line(text, line) {
-            LineRes::Fail(_) => {
+        let Ok((says, after)) = is_master_playlist_tag_line(text, line) else {
+            return Verdict::Media;
+        };
+        match says {
+            None => at = after,
+            Some((is_master, hash)) => {
+                if is_master {
+                    return Verdict::Master(hash);
+                }
                 return Verdict::Media;
             }
-            LineRes::Ok(says, after) => match says {
-                Says::Nothing => {
-                    at = after;
-                }
-                Says::Decides(is_master, hash) => {
-                    if is_master {
-                        return Verdict::Master(hash);
-                    }
-                    return Verdict::Media;
-                }
-            },
         }
     }
 }

@@ -10,8 +10,7 @@ ghost use Rattle.playlist.specs.Answers.{write_answer};
 ghost use Rattle.playlist.specs.Inside.Texts.{clips_text};
 
 use assembly::head::Head;
-use measure::Leave;
-use playlist::WriteAnswer;
+use tables::Refusal;
 
 // All clips. Each is written into the output's tail from where the one before it ended.
 fn clip_lines(
@@ -27,11 +26,8 @@ fn clip_lines(
     ensures { Puts out.old at (clips_text text.now tags.now tag_count clips.now 0 clip_count) out.new result }
 {
     let mut to = at;
-    let mut k = 0;
-    while k < clip_count {
-        let n = cliplines::clip_of(&mut out[to..], text, clips, k, tags, tag_count);
-        to += n;
-        k += 1;
+    for k in 0..clip_count {
+        to += cliplines::clip_of(&mut out[to..], text, clips, k, tags, tag_count);
     }
     to
 }
@@ -62,14 +58,9 @@ pub fn write_to(
     tags: &[u64],
     tag_count: usize,
     out: &mut [u8],
-) -> WriteAnswer
+) -> Result<usize, Refusal>
     ensures { WrittenAs text.now (head_seen head) clips.now clip_count tags.now tag_count write_answer out.old out.new result }
 {
-    match measure::may_write(text, head, clips, clip_count, tags, tag_count, out.len()) {
-        Leave::Refused(r) => WriteAnswer::Refused(r),
-        Leave::Granted => {
-            let length = whole(out, text, head, clips, clip_count, tags, tag_count);
-            WriteAnswer::Written(length)
-        }
-    }
+    measure::may_write(text, head, clips, clip_count, tags, tag_count, out.len())?;
+    Ok(whole(out, text, head, clips, clip_count, tags, tag_count))
 }

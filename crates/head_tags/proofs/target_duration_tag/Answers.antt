@@ -1,10 +1,11 @@
 -- `target_duration_tag`: what `number_after` ensures. Assumes nothing.
-use Rattle.head_tags.specs.Inside.Answers.{number_res}
 use mathlib.Core.Path.{sym, ◌∙◌, ap}
+use Rattle.text.proofs.Tried.{handed_on}
+use Rattle.head_tags.specs.Inside.Answers.{head_res}
 use Rattle.head_tags.proofs.target_duration_tag.Goals as goal
 
-pub returns-in-Ok : goal.returns-in-Ok
-returns-in-Ok c = rw (sym c.number_after.ensures ∙ ap number_res c.in-Ok.is)
+pub returns : goal.returns
+returns c = rw (sym c.in_ok-n.ensures)
 
-pub returns-in-Err : goal.returns-in-Err
-returns-in-Err c = rw (sym c.number_after.ensures ∙ ap number_res c.in-Err.is)
+pub returns-in_err-n : goal.returns-in_err-n
+returns-in_err-n c = ap head_res (handed_on _ _ c.from_residual.ensures.1) ∙ rw (sym c.in_err-n.ensures)

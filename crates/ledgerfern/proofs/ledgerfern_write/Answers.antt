@@ -9,8 +9,8 @@ returns-in-NoHead c =
     let none-there = sym c.head_of.ensures ∙ ap head_res c.in-NoHead.is in
     no_head none-there c.of_no_head.ensures
 
-pub returns-in-Is : goal.returns-in-Is
-returns-in-Is c =
-    let there = sym c.head_of.ensures ∙ ap head_res c.in-Is.is in
+pub returns-in-Some : goal.returns-in-Some
+returns-in-Some c =
+    let there = sym c.head_of.ensures ∙ ap head_res c.in-Some.is in
     let p = c.write_to-given.ensures in
     a_head there c.of_written.ensures p.answered p.out_after

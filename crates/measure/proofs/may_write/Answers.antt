@@ -37,10 +37,10 @@ whole_left-requires c =
       tags_below = b.1.1.1.1;
     }
 
-pub returns-in-Left : goal.returns-in-Left
-returns-in-Left c =
-    let l = leaves_fits _ _ c.whole_left.ensures (ap room_of c.in-Left.is) in
-    ap refusals (sym (has_room _ _ _ _ _ _ _ (search rules) (keeps (goal.at.returns-in-Left c).Else-not-keeps_rule) (omega (arith, l))))
+pub returns-in-Some : goal.returns-in-Some
+returns-in-Some c =
+    let l = leaves_fits _ _ c.whole_left.ensures (ap room_of c.in-Some.is) in
+    ap refusals (sym (has_room _ _ _ _ _ _ _ (search rules) (keeps (goal.at.returns-in-Some c).Else-not-keeps_rule) (omega (arith, l))))
 
 pub whole_room-requires : goal.whole_room-requires
 whole_room-requires c =
@@ -53,10 +53,10 @@ whole_room-requires c =
       clips_below = b.1.1.1;
     }
 
-pub returns-in-Left-whole_room : goal.returns-in-Left-whole_room
-returns-in-Left-whole_room c =
-    let l = fits_room _ _ (sym c.whole_room.ensures ∙ ap room_of c.in-Left-whole_room.is) in
-    ap refusals (sym (has_room _ _ _ _ _ _ _ (search rules) (keeps (goal.at.returns-in-Left-whole_room c).Else-not-keeps_rule) l.0))
+pub returns-in-Some-whole_room : goal.returns-in-Some-whole_room
+returns-in-Some-whole_room c =
+    let l = fits_room _ _ (sym c.whole_room.ensures ∙ ap room_of c.in-Some-whole_room.is) in
+    ap refusals (sym (has_room _ _ _ _ _ _ _ (search rules) (keeps (goal.at.returns-in-Some-whole_room c).Else-not-keeps_rule) l.0))
 
-pub returns-in-Short : goal.returns-in-Short
-returns-in-Short c = ap refusals (sym (too_short _ _ _ _ _ _ _ (search rules) (keeps (goal.at.returns-in-Short c).Else-not-keeps_rule) (sym c.whole_room.ensures ∙ ap room_of c.in-Short.is)))
+pub returns-in-None : goal.returns-in-None
+returns-in-None c = ap refusals (sym (too_short _ _ _ _ _ _ _ (search rules) (keeps (goal.at.returns-in-None c).Else-not-keeps_rule) (sym c.whole_room.ensures ∙ ap room_of c.in-None.is)))

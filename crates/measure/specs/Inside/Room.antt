@@ -1,7 +1,5 @@
 -- What is left of a room after so many bytes, or that it is too short. Assumes nothing.
-use Rattle.std.specs.Prelude.{ℕ, ◌+◌, ◌-◌, ◌≤◌, cond, leb}
-use Rattle.measure.specs.declared.room.Room as roomᵈ
-use Rattle.measure.specs.declared.room.Room.TheVariants as roomᵛ
+use Rattle.std.specs.Prelude.{ℕ, ◌+◌, ◌-◌, ◌≤◌, cond, leb, Option as Perhaps, None, Some}
 
 pub data Room : Type 0 where
   left : ℕ → Room
@@ -16,6 +14,6 @@ Leaves room n (left m) = n + m ≤ room
 Leaves room n short = Unit {0}
 
 -- what the code says of it
-abbrev pub room_of : roomᵈ.Room → Room
-room_of (roomᵛ.Left n) = left n
-room_of roomᵛ.Short = short
+abbrev pub room_of : Perhaps ℕ → Room
+room_of (Some n) = left n
+room_of None = short

@@ -9,7 +9,7 @@ use Rattle.verdict.proofs.admit.Goals.{Else-end-text}
 
 pub returns-then-text-gt-TEXT_LIMIT : goal.returns-then-text-gt-TEXT_LIMIT
 unfolding admitted
-returns-then-text-gt-TEXT_LIMIT c = rw (lt-leb _ _ c.if-text-gt-TEXT_LIMIT.true)
+returns-then-text-gt-TEXT_LIMIT c = rw (c.from.ensures, lt-leb _ _ c.if-text-gt-TEXT_LIMIT.true)
 
 pub returns-then-end-text : goal.returns-then-end-text
 unfolding admitted
@@ -20,8 +20,8 @@ asks-header : (c : Else-end-text) → let text = c.args.text.now in admitted tex
 unfolding admitted
 asks-header c = rw (le-leb _ _ c.if-text-gt-TEXT_LIMIT.false, ← c.utf8_end-end.ensures, eq-eqb _ _ c.if-end-text.false)
 
-pub returns-then-starts_with : goal.returns-then-starts_with
-returns-then-starts_with c = rw (asks-header (goal.at.returns-then-starts_with c).Else-end-text, sym c.starts_with.ensures ∙ c.if-starts_with.true)
+pub returns : goal.returns
+returns c = rw (asks-header (goal.at.returns c).Else-end-text, sym c.starts_with.ensures ∙ c.if-not-starts_with.false)
 
-pub returns-else-starts_with : goal.returns-else-starts_with
-returns-else-starts_with c = rw (asks-header (goal.at.returns-else-starts_with c).Else-end-text, sym c.starts_with.ensures ∙ c.if-starts_with.false)
+pub returns-then-not-starts_with : goal.returns-then-not-starts_with
+returns-then-not-starts_with c = rw (c.from-then-not-starts_with.ensures, asks-header (goal.at.returns-then-not-starts_with c).Else-end-text, sym c.starts_with.ensures ∙ c.if-not-starts_with.true)

@@ -6,8 +6,8 @@ use Rattle.playlist.proofs.Lines.{no_line, one_line}
 use Rattle.put.proofs.Putting.{puts_none, puts_as}
 use Rattle.cliplines.proofs.lines.map_lines.Goals as goal
 
-pub returns-in-Absent : goal.returns-in-Absent
-returns-in-Absent c = rw (c.in-Absent.is, no_line) puts_none
+pub returns-in-None : goal.returns-in-None
+returns-in-None c = rw (c.in-None.is, no_line) puts_none
 
-pub returns-in-Is : goal.returns-in-Is
-returns-in-Is c = rw c.in-Is.is (puts_as (sym (one_line (map_line_of c.args.text.now (map_of c.in-Is.m)))) c.map_line.ensures)
+pub returns-in-Some : goal.returns-in-Some
+returns-in-Some c = rw c.in-Some.is (puts_as (sym (one_line (map_line_of c.args.text.now (map_of c.in-Some.m)))) c.map_line.ensures)

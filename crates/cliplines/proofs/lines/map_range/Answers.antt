@@ -2,8 +2,8 @@
 use Rattle.put.proofs.Putting.{puts_none, puts_then}
 use Rattle.cliplines.proofs.lines.map_range.Goals as goal
 
-pub returns-in-Absent : goal.returns-in-Absent
-returns-in-Absent c = rw c.in-Absent.is puts_none
+pub returns-in-None : goal.returns-in-None
+returns-in-None c = rw c.in-None.is puts_none
 
-pub returns-in-Present : goal.returns-in-Present
-returns-in-Present c = rw c.in-Present.is (puts_then c.copy-value.ensures (puts_then c.range_value-end.ensures c.byte.ensures))
+pub returns-in-Some : goal.returns-in-Some
+returns-in-Some c = rw c.in-Some.is (puts_then c.copy-value.ensures (puts_then c.range_value-end.ensures c.byte.ensures))

@@ -2,8 +2,8 @@
 use Rattle.put.proofs.Putting.{puts_then}
 use Rattle.cliplines.proofs.lines.range_value.Goals as goal
 
-pub returns-in-Absent : goal.returns-in-Absent
-returns-in-Absent c = rw c.in-Absent.is c.number-sign.ensures
+pub returns-in-None : goal.returns-in-None
+returns-in-None c = rw c.in-None.is c.number-sign.ensures
 
-pub returns-in-At : goal.returns-in-At
-returns-in-At c = rw c.in-At.is (puts_then c.number-sign.ensures (puts_then c.byte-value.ensures c.number.ensures))
+pub returns-in-Some : goal.returns-in-Some
+returns-in-Some c = rw c.in-Some.is (puts_then c.number-sign.ensures (puts_then c.byte-value.ensures c.number.ensures))

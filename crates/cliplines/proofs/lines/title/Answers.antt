@@ -2,8 +2,8 @@
 use Rattle.put.proofs.Putting.{puts_none}
 use Rattle.cliplines.proofs.lines.title.Goals as goal
 
-pub returns-in-Absent : goal.returns-in-Absent
-returns-in-Absent c = rw c.in-Absent.is puts_none
+pub returns-in-None : goal.returns-in-None
+returns-in-None c = rw c.in-None.is puts_none
 
-pub returns-in-Present : goal.returns-in-Present
-returns-in-Present c = rw c.in-Present.is c.shown.ensures
+pub returns-in-Some : goal.returns-in-Some
+returns-in-Some c = rw c.in-Some.is c.shown.ensures

@@ -20,11 +20,11 @@ clip_left-requires c =
       tags_below = c.requires.tags_below;
     }
 
-pub returns-in-Short : goal.returns-in-Short
-returns-in-Short c = tt
+pub returns-in-None : goal.returns-in-None
+returns-in-None c = tt
 
 pub loop-k-preserved : goal.loop-k-preserved
-loop-k-preserved c = leaving_more c.loop-k.invariant c.loop-k-test.true (leaves_fits _ _ c.clip_left.ensures (ap room_of c.in-Left.is))
+loop-k-preserved c = leaving_more c.loop-k.invariant c.loop-k-test.true (leaves_fits _ _ c.clip_left.ensures (ap room_of c.in-Some.is))
 
 pub returns : goal.returns
 returns c = leaving_end c.loop-k.invariant (search rules)

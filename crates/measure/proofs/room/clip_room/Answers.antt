@@ -12,8 +12,8 @@ tags_room-requires c =
       tags_below = λ k l. c.requires.tags_below k (omega (arith, l, c.requires.count_bound));
     }
 
-pub returns-in-Left : goal.returns-in-Left
-returns-in-Left c = rw (← c.clip_size-own.ensures.size) (c.tags_room.ensures ∙ room_then c.args.room c.clip_size-own.result _ (sym c.room_for.ensures ∙ ap room_of c.in-Left.is))
+pub returns-in-Some : goal.returns-in-Some
+returns-in-Some c = rw (← c.clip_size-own.ensures.size) (c.tags_room.ensures ∙ room_then c.args.room c.clip_size-own.result _ (sym c.room_for.ensures ∙ ap room_of c.in-Some.is))
 
-pub returns-in-Short : goal.returns-in-Short
-returns-in-Short c = rw (← c.clip_size-own.ensures.size) (room_then_short c.args.room c.clip_size-own.result _ (sym c.room_for.ensures ∙ ap room_of c.in-Short.is))
+pub returns-in-None : goal.returns-in-None
+returns-in-None c = rw (← c.clip_size-own.ensures.size) (room_then_short c.args.room c.clip_size-own.result _ (sym c.room_for.ensures ∙ ap room_of c.in-None.is))

@@ -35,11 +35,11 @@ clip_room-requires c =
       clip_below = rw (← c.clip_at-c.ensures) at (c.requires.clips_below k (search rules));
     }
 
-pub returns-in-Short : goal.returns-in-Short
-returns-in-Short c = measure_short c.loop-k.invariant _ (search rules) (long (goal.at.returns-in-Short c).After-clip_at-c) (sym c.clip_room.ensures ∙ ap room_of c.in-Short.is)
+pub returns-in-None : goal.returns-in-None
+returns-in-None c = measure_short c.loop-k.invariant _ (search rules) (long (goal.at.returns-in-None c).After-clip_at-c) (sym c.clip_room.ensures ∙ ap room_of c.in-None.is)
 
 pub loop-k-preserved : goal.loop-k-preserved
-loop-k-preserved c = measure_more c.loop-k.invariant _ (search rules) (long (goal.at.loop-k-preserved c).After-clip_at-c) (sym c.clip_room.ensures ∙ ap room_of c.in-Left.is)
+loop-k-preserved c = measure_more c.loop-k.invariant _ (search rules) (long (goal.at.loop-k-preserved c).After-clip_at-c) (sym c.clip_room.ensures ∙ ap room_of c.in-Some.is)
 
 pub returns : goal.returns
 returns c = measure_end c.loop-k.invariant (clips_none c.args.tags.now) (search rules)

@@ -25,11 +25,11 @@ long c xs =
     let size = c.tag_size-n.ensures.size ∙ ap tag_size c.tag_at-t.ensures in
     omega (arith, size, tags_more (tag_at c.args.tags.now c.loop-k.k) xs)
 
-pub returns-in-Short : goal.returns-in-Short
-returns-in-Short c = measure_short c.loop-k.invariant _ (search rules) (long (goal.at.returns-in-Short c).After-tag_size-n) (sym c.room_for.ensures ∙ ap room_of c.in-Short.is)
+pub returns-in-None : goal.returns-in-None
+returns-in-None c = measure_short c.loop-k.invariant _ (search rules) (long (goal.at.returns-in-None c).After-tag_size-n) (sym c.room_for.ensures ∙ ap room_of c.in-None.is)
 
 pub loop-k-preserved : goal.loop-k-preserved
-loop-k-preserved c = measure_more c.loop-k.invariant _ (search rules) (long (goal.at.loop-k-preserved c).After-tag_size-n) (sym c.room_for.ensures ∙ ap room_of c.in-Left.is)
+loop-k-preserved c = measure_more c.loop-k.invariant _ (search rules) (long (goal.at.loop-k-preserved c).After-tag_size-n) (sym c.room_for.ensures ∙ ap room_of c.in-Some.is)
 
 pub returns : goal.returns
 returns c = measure_end c.loop-k.invariant tags_none (search rules)

@@ -17,8 +17,8 @@ ends : (c : After-mark_size-end) →
     (let h = head_seen c.args.h in c.head_size-head.result + c.mark_size-end.result ≡ head_size h + length (lines_text (end_lines h)))
 ends c = omega (arith, c.head_size-head.ensures.size, c.mark_size-end.ensures.size, where_long end_list_line c.args.h.end_list)
 
-pub returns-in-Left : goal.returns-in-Left
-returns-in-Left c = rw (← (ends (goal.at.returns-in-Left c).After-mark_size-end)) (c.clips_room.ensures ∙ room_then c.args.room (c.head_size-head.result + c.mark_size-end.result) _ (sym c.room_for.ensures ∙ ap room_of c.in-Left.is))
+pub returns-in-Some : goal.returns-in-Some
+returns-in-Some c = rw (← (ends (goal.at.returns-in-Some c).After-mark_size-end)) (c.clips_room.ensures ∙ room_then c.args.room (c.head_size-head.result + c.mark_size-end.result) _ (sym c.room_for.ensures ∙ ap room_of c.in-Some.is))
 
-pub returns-in-Short : goal.returns-in-Short
-returns-in-Short c = rw (← (ends (goal.at.returns-in-Short c).After-mark_size-end)) (room_then_short c.args.room (c.head_size-head.result + c.mark_size-end.result) _ (sym c.room_for.ensures ∙ ap room_of c.in-Short.is))
+pub returns-in-None : goal.returns-in-None
+returns-in-None c = rw (← (ends (goal.at.returns-in-None c).After-mark_size-end)) (room_then_short c.args.room (c.head_size-head.result + c.mark_size-end.result) _ (sym c.room_for.ensures ∙ ap room_of c.in-None.is))

@@ -4,21 +4,21 @@ use Rattle.text.specs.Answers.{span_of}
 use Rattle.tables.specs.Layout.{text_limit}
 use Rattle.measure.specs.Inside.Below.{SpanBelow}
 use Rattle.measure.proofs.size.part_size.Goals as goal
-use Rattle.measure.proofs.size.part_size.Goals.{In-Present}
+use Rattle.measure.proofs.size.part_size.Goals.{In-Some}
 
 -- the part's span
-within : (c : In-Present) → SpanBelow text_limit (span_of c.in-Present.s)
-within c = rw c.in-Present.is at c.requires.part_below
+within : (c : In-Some) → SpanBelow text_limit (span_of c.in-Some.s)
+within c = rw c.in-Some.is at c.requires.part_below
 
 pub overflow_sub-result : goal.overflow_sub-result
-overflow_sub-result c = (within (goal.at.overflow_sub-result c).In-Present).0
+overflow_sub-result c = (within (goal.at.overflow_sub-result c).In-Some).0
 
 pub overflow_add-result : goal.overflow_add-result
-overflow_add-result c = omega (arith, within (goal.at.overflow_add-result c).In-Present)
+overflow_add-result c = omega (arith, within (goal.at.overflow_add-result c).In-Some)
 
-pub returns-in-Present : goal.returns-in-Present
-returns-in-Present c =
+pub returns-in-Some : goal.returns-in-Some
+returns-in-Some c =
     record {
-      size = rw c.in-Present.is (omega (arith, within (goal.at.returns-in-Present c).In-Present));
-      most = omega (arith, within (goal.at.returns-in-Present c).In-Present);
+      size = rw c.in-Some.is (omega (arith, within (goal.at.returns-in-Some c).In-Some));
+      most = omega (arith, within (goal.at.returns-in-Some c).In-Some);
     }

@@ -2,9 +2,9 @@
 use native.Mathlib.Omega.{arith}
 use Rattle.measure.proofs.size.range_size.Goals as goal
 
-pub returns-in-Present : goal.returns-in-Present
-returns-in-Present c =
+pub returns-in-Some : goal.returns-in-Some
+returns-in-Some c =
     record {
-      size = rw c.in-Present.is (omega (arith, c.range_value_size.ensures));
+      size = rw c.in-Some.is (omega (arith, c.range_value_size.ensures));
       most = omega (arith, c.range_value_size.ensures);
     }

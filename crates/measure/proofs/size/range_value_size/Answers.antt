@@ -6,18 +6,18 @@ use Rattle.text.specs.Nom.{bytes}
 use Rattle.digits.specs.Digits.{number_text}
 use Rattle.measure.proofs.size.range_value_size.Goals as goal
 
-pub returns-in-Absent : goal.returns-in-Absent
-returns-in-Absent c =
+pub returns-in-None : goal.returns-in-None
+returns-in-None c =
     record {
-      size = rw c.in-Absent.is (omega (arith, c.number_size-length.ensures));
+      size = rw c.in-None.is (omega (arith, c.number_size-length.ensures));
       most = omega (arith, c.number_size-length.ensures);
     }
 
-pub returns-in-At : goal.returns-in-At
-returns-in-At c =
+pub returns-in-Some : goal.returns-in-Some
+returns-in-Some c =
     let n = c.args.r.length in
-    let o = c.in-At.o in
+    let o = c.in-Some.o in
     record {
-      size = rw c.in-At.is (omega (arith, c.number_size-value.ensures, c.number_size-length.ensures, length-append (number_text n) (bytes "@" ++ number_text o)));
+      size = rw c.in-Some.is (omega (arith, c.number_size-value.ensures, c.number_size-length.ensures, length-append (number_text n) (bytes "@" ++ number_text o)));
       most = omega (arith, c.number_size-value.ensures, c.number_size-length.ensures);
     }

@@ -9,17 +9,17 @@ use Rattle.playlist.proofs.Lines.{no_line}
 use Rattle.measure.proofs.Sizes.{one_long}
 use Rattle.measure.proofs.size.version_size.Goals as goal
 
-pub returns-in-Absent : goal.returns-in-Absent
-returns-in-Absent c =
+pub returns-in-None : goal.returns-in-None
+returns-in-None c =
     record {
-      size = rw (c.in-Absent.is, no_line) (search rules);
+      size = rw (c.in-None.is, no_line) (search rules);
       most = omega arith;
     }
 
-pub returns-in-Is : goal.returns-in-Is
-returns-in-Is c =
-    let n = c.in-Is.n in
+pub returns-in-Some : goal.returns-in-Some
+returns-in-Some c =
+    let n = c.in-Some.n in
     record {
-      size = rw c.in-Is.is (omega (arith, c.number_size.ensures, one_long (version_line n), length-append (number_text n) (bytes "\n")));
+      size = rw c.in-Some.is (omega (arith, c.number_size.ensures, one_long (version_line n), length-append (number_text n) (bytes "\n")));
       most = omega (arith, c.number_size.ensures);
     }

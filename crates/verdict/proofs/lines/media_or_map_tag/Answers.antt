@@ -1,5 +1,5 @@
--- `lines::media_or_map_tag`: what `group_tag` and `or` ensure, in turn. Assumes nothing.
+-- `lines::media_or_map_tag`: what `group_tag` and `or_named` ensure, in turn. Assumes nothing.
 use Rattle.verdict.proofs.lines.media_or_map_tag.Goals as goal
 
 pub returns : goal.returns
-returns c = rw (rw c.group_tag.ensures at c.or.ensures) at c.or-2.ensures
+returns c = rw (rw c.group_tag-found.ensures at c.or_named-found.ensures) at c.or_named.ensures

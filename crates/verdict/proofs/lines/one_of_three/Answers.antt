@@ -1,5 +1,5 @@
--- `lines::one_of_three`: what `either` and `or` ensure, in turn. Assumes nothing.
+-- `lines::one_of_three`: what `either` and `or_named` ensure, in turn. Assumes nothing.
 use Rattle.verdict.proofs.lines.one_of_three.Goals as goal
 
 pub returns : goal.returns
-returns c = rw c.either.ensures at c.or.ensures
+returns c = rw c.either-found.ensures at c.or_named.ensures

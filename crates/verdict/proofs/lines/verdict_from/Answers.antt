@@ -22,19 +22,19 @@ from-line c = c.loop-says.invariant ∙ c.quiet_end-line.ensures.1 ∙ verdict_s
 pub loop-says-init : goal.loop-says-init
 loop-says-init c = refl
 
-pub returns-in-Err : goal.returns-in-Err
-returns-in-Err c =
-    let fails = sym c.is_master_playlist_tag_line.ensures ∙ ap line_res c.in-Err.is in
+pub returns-in_default : goal.returns-in_default
+returns-in_default c =
+    let fails = sym c.is_master_playlist_tag_line.ensures ∙ ap line_res c.in_default.is in
     sym (c.loop-says.invariant ∙ c.quiet_end-line.ensures.1 ∙ verdict_stop _ _ _ fails)
 
 pub loop-says-smaller : goal.loop-says-smaller
 loop-says-smaller c = omega (arith, line_falls _ _ _ _ (taken (goal.at.loop-says-smaller c).In-Ok), c.quiet_end-line.ensures.0)
 
 pub loop-says-preserved : goal.loop-says-preserved
-loop-says-preserved c = rw c.in-Nothing.is at (from-line (goal.at.loop-says-preserved c).In-Ok)
+loop-says-preserved c = rw c.in-None.is at (from-line (goal.at.loop-says-preserved c).In-Ok)
 
 pub returns-then-is_master : goal.returns-then-is_master
-returns-then-is_master c = sym (rw (c.in-Decides.is, c.if-is_master.true) at (from-line (goal.at.returns-then-is_master c).In-Ok))
+returns-then-is_master c = sym (rw (c.in-Some.is, c.if-is_master.true) at (from-line (goal.at.returns-then-is_master c).In-Ok))
 
-pub returns-in-Decides : goal.returns-in-Decides
-returns-in-Decides c = sym (rw (c.in-Decides.is, c.if-is_master.false) at (from-line (goal.at.returns-in-Decides c).In-Ok))
+pub returns-in-Some : goal.returns-in-Some
+returns-in-Some c = sym (rw (c.in-Some.is, c.if-is_master.false) at (from-line (goal.at.returns-in-Some c).In-Ok))
