@@ -1,21 +1,9 @@
--- `byte_range_tag`: what `starts_with` and `byte_range_val` ensure. Assumes nothing.
+-- `byte_range_tag`: a text that is there is within. Assumes nothing.
 use native.Mathlib.Omega.{arith}
 use Prim.Native.Nat.{◌-◌, ◌^◌}
-use Rattle.leaves.specs.Answers.{byte_range_res}
+use mathlib.Core.Path.{sym, ◌∙◌}
 use Rattle.text.proofs.Laws.{tagged_below}
-use mathlib.Core.Path.{sym, ◌∙◌, ap}
-use Rattle.text.proofs.Tried.{handed_on}
-use Rattle.tags.specs.Answers.{tag_res}
 use Rattle.clip_tags.proofs.byte_range_tag.Goals as goal
 
 pub overflow_add-at : goal.overflow_add-at
 overflow_add-at c = omega (arith, tagged_below _ _ _ (2 ^ 64 - 1) (omega arith) (omega arith) (sym c.starts_with.ensures ∙ c.if-starts_with.true))
-
-pub returns-then-starts_with : goal.returns-then-starts_with
-returns-then-starts_with c = rw (sym c.starts_with.ensures ∙ c.if-starts_with.true, sym c.in_ok-r.ensures)
-
-pub returns-in_err-r : goal.returns-in_err-r
-returns-in_err-r c = ap tag_res (handed_on _ _ c.from_residual.ensures.1) ∙ rw (sym c.starts_with.ensures ∙ c.if-starts_with.true, sym c.in_err-r.ensures)
-
-pub returns : goal.returns
-returns c = rw (sym c.starts_with.ensures ∙ c.if-starts_with.false)

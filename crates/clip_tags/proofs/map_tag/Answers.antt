@@ -1,7 +1,6 @@
 -- `map_tag`: what `starts_with` and `extmap` ensure; where the tag's text is not there, the memory is as it was. Assumes nothing.
 use native.Mathlib.Omega.{arith}
 use Prim.Native.Nat.{◌-◌, ◌^◌}
-use Rattle.attributes.specs.Answers.{map_res}
 use Rattle.text.proofs.Laws.{tagged_below}
 use mathlib.Core.Path.{sym, ◌∙◌, ap}
 use Rattle.text.proofs.Tried.{handed_on}
