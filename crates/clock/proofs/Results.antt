@@ -9,9 +9,8 @@ use Rattle.std.specs.Prelude.{Result}
 use Rattle.std.specs.Result.{IsErrAnd}
 use Rattle.std.proofs.lemmas.Result.{err_from_is_err_and}
 use Rattle.tables.specs.declared.Refusal as refusalᵈ
-use Rattle.tables.specs.Answers.{refusal_of}
+use Rattle.tables.specs.Answers.{refusal_of, answer}
 use Rattle.tables.specs.Refusal.{Answer, refused, given}
-use Rattle.clock.specs.Answers.{answer_of}
 use Rattle.tables.proofs.Refusals.{RefusesAs}
 use Rattle.clock.specs.Clock.{largest_total, sum_lengths, moment_of, tick_of, ticks_of}
 use Rattle.clock.specs.Calls.{at_rate, in_turn, of_clip, total}
@@ -20,9 +19,9 @@ use Rattle.clock.proofs.Moments.{next_moment_lem, clips_rise}
 use Rattle.clock.proofs.Calls.{Timed, timed_front, AtRate, rate_front, InTurn, turn_front, clip_turn_front}
 
 -- a refusal that `?` hands on meets every rule that refuses as the one does that it came from
-pub refused_result : {A : Type 0} (x : Answer A) (y : Answer ℕ) (r : Result ℕ refusalᵈ.Refusal) (e : refusalᵈ.Refusal)
-    → IsErrAnd r (λ d. d ≡ e) → RefusesAs x y → refused (refusal_of e) 0 ≡ x → answer_of r ≡ y
-refused_result x y r e h f q = let p = err_from_is_err_and r h in rw (p.1, p.2) (sym (f (refusal_of e) 0 (sym q)))
+pub refused_result : {A B C : Type 0} (f : A → B) (x : Answer C) (y : Answer B) (r : Result A refusalᵈ.Refusal) (e : refusalᵈ.Refusal)
+    → IsErrAnd r (λ d. d ≡ e) → RefusesAs x y → refused (refusal_of e) 0 ≡ x → answer f r ≡ y
+refused_result f x y r e h g q = let p = err_from_is_err_and r h in rw (p.1, p.2) (sym (g (refusal_of e) 0 (sym q)))
 
 -- ---- what a front gives is the total
 pub total_result : (t : List ℕ) (n v : ℕ) → given v ≡ total t n → Timed t n

@@ -14,7 +14,7 @@ passed c = total_result _ _ _ c.in_ok-whole.ensures
 
 pub returns-in_err-whole : goal.returns-in_err-whole
 unfolding total at_rate
-returns-in_err-whole c = refused_result _ _ _ _ c.from_residual.ensures.1 ((timed_front _ _).refuses _ _ (given_refuses _ _)) c.in_err-whole.ensures
+returns-in_err-whole c = refused_result _ _ _ _ _ c.from_residual.ensures.1 ((timed_front _ _).refuses _ _ (given_refuses _ _)) c.in_err-whole.ensures
 
 pub returns-then-rate-lt-SMALLEST_RATE : goal.returns-then-rate-lt-SMALLEST_RATE
 returns-then-rate-lt-SMALLEST_RATE c = sym (rate_12 _ _ _ _ (passed (goal.at.returns-then-rate-lt-SMALLEST_RATE c).In_ok-whole) (grind (arith, c.then-rate-lt-SMALLEST_RATE.either)))

@@ -15,13 +15,13 @@ passed c = total_result _ _ _ c.in_ok-total.ensures
 
 pub returns-in_err-total : goal.returns-in_err-total
 unfolding total start_ns
-returns-in_err-total c = refused_result _ _ _ _ c.from_residual.ensures.1 ((timed_front _ _).refuses _ _ (given_refuses _ _)) c.in_err-total.ensures
+returns-in_err-total c = refused_result _ _ _ _ _ c.from_residual.ensures.1 ((timed_front _ _).refuses _ _ (given_refuses _ _)) c.in_err-total.ensures
 
 pub returns-then-clips-clip : goal.returns-then-clips-clip
 unfolding start_ns
-returns-then-clips-clip c = sym ((timed_front _ _).on _ (passed (goal.at.returns-then-clips-clip c).In_ok-total) ∙ clip_14 _ _ _ c.if-clips-clip.true)
+returns-then-clips-clip c = sym ((timed_front _ _).on _ (passed (goal.at.returns-then-clips-clip c).In_ok-total) ∙ clip_14 _ _ _ (omega arith))
 
 pub returns : goal.returns
 returns c =
     let g = passed (goal.at.returns c).In_ok-total in
-    ap given (sum_exact _ _ _ _ g (omega arith) c.sum_upto.ensures) ∙ sym (start_ns_given _ _ _ g c.if-clips-clip.false)
+    ap given (sum_exact _ _ _ _ g (omega arith) c.sum_upto.ensures) ∙ sym (start_ns_given _ _ _ g (omega arith))

@@ -18,7 +18,7 @@ ticks c = let w = clip_result _ _ _ _ _ _ c.in_ok-whole.ensures in ticks_result 
 
 pub returns-in_err-whole : goal.returns-in_err-whole
 unfolding clip_ticks
-returns-in_err-whole c = refused_result _ _ _ _ c.from_residual.ensures.1 ((clip_turn_front _ _ _ _ _).refuses _ _ (given_refuses _ _)) c.in_err-whole.ensures
+returns-in_err-whole c = refused_result _ _ _ _ _ c.from_residual.ensures.1 ((clip_turn_front _ _ _ _ _).refuses _ _ (given_refuses _ _)) c.in_err-whole.ensures
 
 pub tick_reached-start-requires : goal.tick_reached-start-requires
 tick_reached-start-requires c = let w = clip_result _ _ _ _ _ _ c.in_ok-whole.ensures in omega (arith, w, within_whole _ _ _ _ _ w.0 c.args.clip (omega arith))

@@ -10,7 +10,7 @@ use Rattle.clock.proofs.turns.start_tick.Goals as goal
 
 pub returns-in_err-whole : goal.returns-in_err-whole
 unfolding start_tick
-returns-in_err-whole c = refused_result _ _ _ _ c.from_residual.ensures.1 ((clip_turn_front _ _ _ _ _).refuses _ _ (given_refuses _ _)) c.in_err-whole.ensures
+returns-in_err-whole c = refused_result _ _ _ _ _ c.from_residual.ensures.1 ((clip_turn_front _ _ _ _ _).refuses _ _ (given_refuses _ _)) c.in_err-whole.ensures
 
 pub tick_reached-requires : goal.tick_reached-requires
 tick_reached-requires c = let w = clip_result _ _ _ _ _ _ c.in_ok-whole.ensures in omega (arith, w, within_whole _ _ _ _ _ w.0 c.args.clip (omega arith))
