@@ -1,5 +1,4 @@
 -- `reached`: the seconds are divided by the whole, then the ns come down three digits at a time; all of it is the last moment (`parts`). Assumes nothing.
-use native.Mathlib.Nat.{mod-lt}
 use native.Mathlib.Omega.{arith}
 use Rattle.playing.proofs.Moment.{Parts, parts}
 use Rattle.playing.proofs.reached.Goals as goal
@@ -13,12 +12,6 @@ nonzero_div-seconds-2 c = omega (arith, pieces (goal.at.nonzero_div-seconds-2 c)
 
 pub nonzero_rem-seconds : goal.nonzero_rem-seconds
 nonzero_rem-seconds c = omega (arith, pieces (goal.at.nonzero_rem-seconds c).Start)
-
-pub overflow_mul-nanos : goal.overflow_mul-nanos
-overflow_mul-nanos c = omega (arith, mod-lt c.args.tick c.requires.1)
-
-pub overflow_add-nanos : goal.overflow_add-nanos
-overflow_add-nanos c = omega (arith, mod-lt c.args.tick c.requires.1)
 
 pub down-a-requires : goal.down-a-requires
 down-a-requires c = omega (arith, pieces (goal.at.down-a-requires c).Start)
