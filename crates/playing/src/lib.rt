@@ -36,6 +36,20 @@ struct Turns {
     rest: u64,
 }
 
+impl Turns {
+    // One step of a long division by the whole, three decimal digits at a time: behind turn x whole + rest come the digits d.
+    fn down(self, d: u64, whole: u64) -> Turns
+        requires { (whole ≤ clock.largest_total) × (self.rest < whole) × (d < 1000) × ((self.turn * whole + self.rest) * 1000 + d < clock.turns * whole) }
+        ensures { (result.turn * whole + result.rest ≡ (self.turn * whole + self.rest) * 1000 + d) × (result.rest < whole) }
+    {
+        let x = self.rest * 1_000 + d;
+        Turns {
+            turn: self.turn * 1_000 + x / whole,
+            rest: x % whole,
+        }
+    }
+}
+
 // A clip, the lengths before it, and its own.
 #[derive(Clone, Copy)]
 struct Found {
@@ -59,18 +73,6 @@ fn in_play(words: &[u64], clips: usize, rate: u64, tick: u64) -> Result<u64, Ref
     Ok(whole)
 }
 
-// One step of a long division by the whole, three decimal digits at a time: behind turn x whole + rest come the digits d.
-fn down(turn: u64, rest: u64, d: u64, whole: u64) -> Turns
-    requires { (whole ≤ clock.largest_total) × (rest < whole) × (d < 1000) × ((turn * whole + rest) * 1000 + d < clock.turns * whole) }
-    ensures { (result.turn * whole + result.rest ≡ (turn * whole + rest) * 1000 + d) × (result.rest < whole) }
-{
-    let x = rest * 1_000 + d;
-    Turns {
-        turn: turn * 1_000 + x / whole,
-        rest: x % whole,
-    }
-}
-
 // The last ns whose tick is not after the given one, which may be above 2^64: its seconds and the ns left over are divided one after the other.
 fn reached(tick: u64, rate: u64, whole: u64) -> Turns
     requires { (whole ≤ clock.largest_total) × (1 ≤ rate) × (rate ≤ clock.largest_rate) × (tick < clock.tick_of (clock.turns * whole) rate) }
@@ -78,9 +80,14 @@ fn reached(tick: u64, rate: u64, whole: u64) -> Turns
 {
     let seconds = tick / rate;
     let nanos = (tick % rate * SECOND + (SECOND - 1)) / rate;
-    let a = down(seconds / whole, seconds % whole, nanos / 1_000_000, whole);
-    let b = down(a.turn, a.rest, nanos / 1_000 % 1_000, whole);
-    down(b.turn, b.rest, nanos % 1_000, whole)
+    let turns = Turns {
+        turn: seconds / whole,
+        rest: seconds % whole,
+    };
+    turns
+        .down(nanos / 1_000_000, whole)
+        .down(nanos / 1_000 % 1_000, whole)
+        .down(nanos % 1_000, whole)
 }
 
 // The last clip that has started `rest` ns into a turn: the first that is not over by then, so that one of length 0 is passed over.
