@@ -1,5 +1,6 @@
 // The exact clock over a lent table of clip records: totals, starts and ticks in whole numbers, cut to a tick once, at the end.
 // Each call answers for every table and every number: the count is compared without overflow, and the sum stops at its limit.
+// Words and count come apart, as the C interface has them: any count may come with any words, so that a struct of both would promise nothing.
 #![tactic(auto)]
 
 pub mod turns; // starts and lengths in ticks of a turn

@@ -60,6 +60,7 @@ impl Starts {
     }
 
     // The next clip and the cursor after it. Words that are not those of `new` are refused where they pass the total.
+    // From cursor to cursor and no `Iterator`: the public form, which `docs/PROMISES.md` names, is lent the words again at each step.
     pub fn next(self, words: &[u64]) -> Result<Option<(Row, Starts)>, Refusal>
         ensures { step_of result ≡ rule.next words.now (cursor_of self) }
     {
