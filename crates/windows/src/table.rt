@@ -33,7 +33,12 @@ fn lay(text: &[u8], words: &[u64], clips: usize, out: &mut [u64])
 }
 
 // 1, 9; then 10, where the table has fewer than four words a clip. Where it is refused, no word changes.
-pub fn all_windows(text: &[u8], words: &[u64], clips: usize, out: &mut [u64]) -> Result<usize, Refusal>
+pub fn all_windows(
+    text: &[u8],
+    words: &[u64],
+    clips: usize,
+    out: &mut [u64],
+) -> Result<usize, Refusal>
     ensures { rule.WindowsAs text.now words.now clips out.old out.new result }
 {
     window::over_clips(text, words, clips)?;

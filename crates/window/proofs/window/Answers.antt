@@ -13,7 +13,7 @@ passed c = ((clips_front _ _ _).passed _ tt (sym c.over_clips.ensures ∙ ap fro
 
 pub returns-in_err-over_clips : goal.returns-in_err-over_clips
 unfolding window
-returns-in_err-over_clips c = 
+returns-in_err-over_clips c =
     let e = (clips_front _ _ _).refuses _ _ (given_refuses _ _) _ 0 (sym c.over_clips.ensures ∙ ap front_of c.in_err-over_clips.was) in
     search rules ∙ sym e
 

@@ -23,9 +23,6 @@ returns-in_err-over_clips c =
 pub returns-then-not-windows_fit : goal.returns-then-not-windows_fit
 returns-then-not-windows_fit c = as_refused _ _ _ _ _ refl (windows_10 _ _ _ _ (passed (goal.at.returns-then-not-windows_fit c).In_ok-over_clips) (sym c.windows_fit.ensures ∙ c.if-not-windows_fit.true))
 
-pub lay-requires : goal.lay-requires
-lay-requires c = sym c.windows_fit.ensures ∙ c.if-not-windows_fit.false
-
 pub returns : goal.returns
 returns c =
     let e = windows_given _ _ _ _ (passed (goal.at.returns c).In_ok-over_clips) (sym c.windows_fit.ensures ∙ c.if-not-windows_fit.false) in
