@@ -10,7 +10,7 @@ use Rattle.cue_reader.proofs.read.Goals as goal
 use Rattle.cue_reader.proofs.read.Goals.{Else-clips-clip}
 
 -- the count in hand is that of the file, which was judged
-counted : (c : Else-clips-clip) → Counted version1 c.args.file.now c.in_ok-clips.field-0
+counted : (c : Else-clips-clip) → Counted version1 c.args.file.now c.in_ok-clips.clips
 counted c = judged_given version1 _ _ c.judged.ensures.result_value _ c.in_ok-clips.was
 
 pub returns-in_err-clips : goal.returns-in_err-clips
