@@ -63,9 +63,11 @@ impl Cues {
             start: crate::start(file, clip),
             uri: Span { start: place, end },
         };
-        let mut after = self;
-        after.clip = clip + 1;
-        after.place = end;
+        let after = Cues {
+            clip: clip + 1,
+            place: end,
+            ..self
+        };
         Ok(Some((cue, after)))
     }
 }

@@ -19,21 +19,12 @@ use text::Span;
 
 pub mod all; // all clips in one pass
 
-// With it a byte read asks no proof that it fits.
-fn wide(byte: u8) -> u64
-    ensures { (result ≡ byte) × (result ≤ 255) }
-{
-    byte as u64
-}
-
 // The number in two bytes of the file, high byte first.
 fn two_at(file: &[u8], at: usize) -> u64
     requires { at + 2 ≤ length file.now }
     ensures { (result ≡ value_at 2 file.now at) × (result ≤ 65535) }
 {
-    let high = wide(file[at]);
-    let low = wide(file[at + 1]);
-    high * 256 + low
+    u64::from(u16::from_be_bytes([file[at], file[at + 1]]))
 }
 
 // The number in four.
@@ -41,9 +32,8 @@ fn four_at(file: &[u8], at: usize) -> u64
     requires { at + 4 ≤ length file.now }
     ensures { (result ≡ value_at 4 file.now at) × (result ≤ 4294967295) }
 {
-    let high = two_at(file, at);
-    let low = two_at(file, at + 2);
-    high * 65_536 + low
+    let bytes = [file[at], file[at + 1], file[at + 2], file[at + 3]];
+    u64::from(u32::from_be_bytes(bytes))
 }
 
 // A clip's record stands at its number times the width of one. Its second field:
