@@ -1,4 +1,4 @@
--- `uris_in`: the spans of the clips passed so far lie within the text; the first that does not decides. The measure is the clips left. Assumes nothing.
+-- `uris_in`: the spans of the clips passed so far lie within the text; the first that does not decides. Assumes nothing.
 use borrow.Author.Rules.{rules}
 use native.Mathlib.Omega.{arith}
 use mathlib.Core.Path.{sym}

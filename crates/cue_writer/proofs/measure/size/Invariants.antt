@@ -6,6 +6,3 @@ use Rattle.cue_writer.proofs.measure.size.Given as goal
 
 abbrev pub invariant-loop-k : goal.invariant-loop-k
 invariant-loop-k l = (l.k ≤ l.clips) × (l.sum ≡ l.clips * clip_width version1 + trailer_width version1 + uris_size l.words l.k)
-
-abbrev pub decreases-loop-k : goal.decreases-loop-k
-decreases-loop-k l = l.clips - l.k

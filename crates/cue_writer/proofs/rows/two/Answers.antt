@@ -1,7 +1,7 @@
--- `two`: the quotients by 256, each modulo 256, are the number's bytes. Assumes nothing.
+-- `two`: the last two bytes of the number's eight. Assumes nothing.
 use Rattle.cue_file.specs.Format.{bytes_of}
 use Rattle.cue_writer.proofs.rows.two.Goals as goal
 
 pub returns : goal.returns
 unfolding bytes_of
-returns c = c.copy.ensures
+returns c = rw c.to_be_bytes.ensures at c.copy.ensures

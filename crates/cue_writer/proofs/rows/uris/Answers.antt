@@ -1,4 +1,4 @@
--- `uris`: the URIs from clip k on, put from here on, are the whole put. The measure is the clips left. Assumes nothing.
+-- `uris`: the URIs from clip k on, put from here on, are the whole put. Assumes nothing.
 use borrow.Author.Rules.{rules}
 use native.Mathlib.Nat.{sub-zero}
 use mathlib.Core.Path.{ap}
