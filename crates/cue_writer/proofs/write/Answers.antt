@@ -52,9 +52,6 @@ returns-then-not-fields_hold c =
     let wide = sym c.fields_hold.ensures ∙ c.if-not-fields_hold.true in
     as_refused _ _ _ _ _ refl (writer_33 _ _ _ _ (search rules) (in-text (goal.at.returns-then-not-fields_hold c).Else-not-uris_in) (in-turn (goal.at.returns-then-not-fields_hold c).In_ok-starts) wide)
 
-pub size-length-requires : goal.size-length-requires
-size-length-requires c = held (goal.at.size-length-requires c).Else-not-fields_hold
-
 pub returns-then-out-length : goal.returns-then-out-length
 returns-then-out-length c =
     let text = in-text (goal.at.returns-then-out-length c).Else-not-uris_in in

@@ -1,4 +1,4 @@
-use Prim.Native.Nat.{◌+◌, ◌-◌, ◌*◌, ◌≤◌}
+use Prim.Native.Nat.{◌+◌, ◌*◌, ◌≤◌}
 use mathlib.Core.Path.{◌≡◌}
 use Rattle.cue_file.specs.Format.{version1, clip_width, trailer_width}
 use Rattle.cue_writer.specs.Inside.Measure.{uris_size}

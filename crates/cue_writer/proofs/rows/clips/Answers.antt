@@ -1,19 +1,14 @@
 -- `clips`: what the steps left put, put from here on, is the whole put. Assumes nothing.
 use borrow.Author.Rules.{rules}
-use native.Mathlib.Nat.{sub-zero}
 use Prim.Native.Nat.{◌+◌, ◌-◌}
 use Rattle.std.specs.Prelude.{None, Ok}
 use mathlib.Core.Path.{◌≡◌, sym, ap, ◌∙◌}
 use mathlib.Core.List.{◌++◌}
 use Rattle.starts.specs.Answers.{cursor_of, step_of}
-use Rattle.starts.specs.Starts.{next}
-use Rattle.put.proofs.Putting.{left_all, left_as, left_on, left_none}
+use Rattle.put.proofs.Putting.{left_as, left_on, left_none}
 use Rattle.cue_writer.specs.Inside.Pass.{step_after, step_bytes, pass_bytes}
 use Rattle.cue_writer.proofs.Pass.{pass_left, pass_over, pass_done, pass_refused}
 use Rattle.cue_writer.proofs.rows.clips.Goals as goal
-
-pub loop-k-init : goal.loop-k-init
-loop-k-init c = (search rules, left_as (rw sub-zero) (left_all _ _ _))
 
 pub loop-k-preserved : goal.loop-k-preserved
 loop-k-preserved c =
@@ -33,9 +28,6 @@ returns-in_default c =
 
 pub returns-in_default-2 : goal.returns-in_default-2
 returns-in_default-2 c = left_none (left_as (pass_refused _ _ _ _ _ (sym (ap step_of c.in_default.is) ∙ c.next.ensures)) c.loop-k.invariant.1)
-
-pub shape_of-out : goal.shape_of-out
-shape_of-out c = c.loop-k.invariant.1.long
 
 pub returns : goal.returns
 returns c =
