@@ -8,23 +8,19 @@ ghost use Rattle.cue_writer.specs.Inside.Measure.{largest};
 ghost use Rattle.cue_writer.specs.Inside.Pass as inside;
 
 use crate::measure;
-use cue_file::{CLIP_WIDTH, VERSION_1};
+use cue_file::{
+    CLIP_WIDTH, COUNT, NANOSECONDS, RECORDS, SECONDS, URI_LENGTH, URIS, VERSION, VERSION_1,
+};
 use starts::{Row, Starts};
 use tables::{layout, record};
 use text::Span;
 
-// The number in two bytes, high byte first.
-fn two(out: &mut [u8], at: usize, value: u64) -> usize
-    ensures { Puts out.old at (bytes_of 2 value) out.new result }
+// A number in a field of so many bytes, high byte first: the last of its eight.
+fn field<const WIDTH: usize>(out: &mut [u8], at: usize, value: u64) -> usize
+    requires { WIDTH ≤ 8 }
+    ensures { Puts out.old at (bytes_of WIDTH value) out.new result }
 {
-    put::copy(out, at, &value.to_be_bytes()[6..])
-}
-
-// The number in four bytes, high byte first.
-fn four(out: &mut [u8], at: usize, value: u64) -> usize
-    ensures { Puts out.old at (bytes_of 4 value) out.new result }
-{
-    put::copy(out, at, &value.to_be_bytes()[4..])
+    put::copy(out, at, &value.to_be_bytes()[8 - WIDTH..])
 }
 
 // A clip's record: the seconds and nanoseconds of its start, and the length of its URI. At rate 1 the tick is the second.
@@ -33,9 +29,9 @@ fn clip(out: &mut [u8], at: usize, words: &[u64], row: Row) -> usize
 {
     let nanoseconds = row.start % layout::SECOND;
     let length = measure::uri_length(words, row.clip);
-    let nanoseconds_at = four(out, at, row.tick);
-    let length_at = four(out, nanoseconds_at, nanoseconds);
-    two(out, length_at, length)
+    let nanoseconds_at = field::<SECONDS>(out, at, row.tick);
+    let length_at = field::<NANOSECONDS>(out, nanoseconds_at, nanoseconds);
+    field::<URI_LENGTH>(out, length_at, length)
 }
 
 // One step for each clip. Over the words that the cursor was made with no step is refused, so that each gives a clip.
@@ -85,10 +81,10 @@ fn trailer(out: &mut [u8], at: usize, clips: usize) -> usize
     ensures { Puts out.old at (trailer_bytes version1 clips) out.new result }
 {
     let uris = clips * CLIP_WIDTH;
-    let uris_at = four(out, at, 0);
-    let count_at = four(out, uris_at, uris as u64);
-    let version_at = two(out, count_at, clips as u64);
-    two(out, version_at, VERSION_1)
+    let uris_at = field::<RECORDS>(out, at, 0);
+    let count_at = field::<URIS>(out, uris_at, uris as u64);
+    let version_at = field::<COUNT>(out, count_at, clips as u64);
+    field::<VERSION>(out, version_at, VERSION_1)
 }
 
 // The whole file, from the front of the output on.
