@@ -19,7 +19,7 @@ use text::Span;
 
 pub mod all; // all clips in one pass
 
-// The number in two bytes of the file, high byte first.
+// The number in two bytes of the file, high byte first. One function for each width, not one for both: `from_be_bytes` is one for each type.
 fn two_at(file: &[u8], at: usize) -> u64
     requires { at + 2 ≤ length file.now }
     ensures { (result ≡ value_at 2 file.now at) × (result ≤ 65535) }
