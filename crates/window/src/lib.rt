@@ -1,4 +1,5 @@
 // The byte window of a clip: which part of its resource the clip's range names (RFC 8216, 4.3.2.2). Every text, table and number is answered.
+// The text and the clip table stay two parameters, as the calls in C and the rules have them.
 #![tactic(auto)]
 
 ghost use Rattle.std.specs.Prelude.{◌≡◌};

@@ -8,7 +8,7 @@ ghost use Rattle.windows.specs.Table as rule;
 use tables::{Refusal, layout, record};
 use window::{Range, Window};
 
-// A window's four words.
+// A window's four words. No `From`, since neither type is this crate's.
 fn words_of(window: Window) -> [u64; layout::WINDOW_WORDS]
     ensures { result ≡ rule.window_record (answer_of window) }
 {
