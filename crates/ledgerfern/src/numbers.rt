@@ -271,10 +271,10 @@ impl From<Result<media::Read, Refused>> for Read {
     }
 }
 
-impl From<Result<media::Room, Refused>> for Room {
+impl From<Result<media::Needs, Refused>> for Room {
     ghost from_gives = { λ given r. r ≡ rule.room_numbers (room_answer given) };
 
-    fn from(given: Result<media::Room, Refused>) -> Room {
+    fn from(given: Result<media::Needs, Refused>) -> Room {
         match given {
             Err(r) => Room {
                 number: r.refusal.number(),

@@ -8,13 +8,13 @@ use Rattle.text.specs.BasicTags.{ExtTag}
 use Rattle.std.specs.Prelude.{Result, Ok, Err}
 use Rattle.text.proofs.Only.{Only}
 use Rattle.tables.specs.declared.Refused as refusedᵈ
-use Rattle.tables.specs.Refusal.{Answer, refused}
+use Rattle.tables.specs.Refusal.{Answer}
 use Rattle.tables.specs.Answers.{refusal_of}
 use Rattle.tables.proofs.Refusals.{named, named_back, answer_at_only}
 use Rattle.assembly.specs.Assembly.{Clip}
 use Rattle.assembly.proofs.Only.{head_only}
 use Rattle.media.specs.declared.Read as readᵈ
-use Rattle.media.specs.declared.Room as roomᵈ
+use Rattle.media.specs.declared.Needs as needsᵈ
 use Rattle.media.specs.Calls.{Read, Room, room, ReadingAs}
 use Rattle.media.specs.Answers.{read_seen, parse_answer, room_seen, room_answer}
 
@@ -39,10 +39,10 @@ parse_only (Ok a) (Err q) e = cc
 parse_only (Ok a) (Ok b) e = ap Ok (read_only a b (cc))
 
 -- `room`
-abbrev room_back_lem : Room → roomᵈ.Room
+abbrev room_back_lem : Room → needsᵈ.Needs
 room_back_lem (room clips tags) = record { clips = clips; tags = tags }
 
-pub room_only : (x : Answer Room) (a b : Result roomᵈ.Room refusedᵈ.Refused) → room_answer a ≡ x → room_answer b ≡ x → a ≡ b
+pub room_only : (x : Answer Room) (a b : Result needsᵈ.Needs refusedᵈ.Refused) → room_answer a ≡ x → room_answer b ≡ x → a ≡ b
 room_only = answer_at_only room_seen room_back_lem (λ r. refl)
 
 -- ---- two results at the same text and the same tables, whose answer, clips and tags are so the same

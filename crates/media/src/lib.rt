@@ -26,7 +26,7 @@ pub struct Read {
 
 // How much room a reading needs: so many clips and kept unknown tags there are.
 #[derive(Clone, Copy)]
-pub struct Room {
+pub struct Needs {
     pub clips: usize,
     pub tags: usize,
 }
@@ -67,12 +67,12 @@ pub fn parse_media_playlist(
 }
 
 // The reader's first pass alone, so that a caller can lend tables of just so many records. Refusals 1, 2, 3, 4, then 5 or 6 whichever the reading meets first.
-pub fn room(text: &[u8]) -> Result<Room, Refused>
+pub fn room(text: &[u8]) -> Result<Needs, Refused>
     ensures { room_answer result ≡ rule.room_for text.now }
 {
     weigh(text)?;
     let last = reading::count(text, reading::first_step(text))?;
-    Ok(Room {
+    Ok(Needs {
         clips: last.clips,
         tags: last.tags,
     })

@@ -95,9 +95,9 @@ pub(crate) fn count(text: &[u8], at: usize) -> Result<Read, Refused>
             CountStep::Stop => {
                 return Ok(c.read(head));
             }
-            CountStep::Refused(refusal) => {
+            CountStep::Refused(r) => {
                 return Err(Refused {
-                    refusal,
+                    refusal: r,
                     place: c.at,
                 });
             }

@@ -4,4 +4,4 @@ use Rattle.ledgerfern.specs.Numbers.{on_numbers}
 use Rattle.ledgerfern.proofs.ledgerfern_clip_at.Goals as goal
 
 pub returns : goal.returns
-returns c = c.of_on.ensures ∙ ap on_numbers c.clip_at.ensures
+returns c = c.from.ensures ∙ ap on_numbers c.clip_at.ensures

@@ -4,4 +4,4 @@ use Rattle.ledgerfern.specs.Numbers.{cue_numbers}
 use Rattle.ledgerfern.proofs.ledgerfern_cue_read.Goals as goal
 
 pub returns : goal.returns
-returns c = c.of_cue.ensures ∙ ap cue_numbers c.read.ensures
+returns c = c.from.ensures ∙ ap cue_numbers c.read.ensures

@@ -6,4 +6,4 @@ use Rattle.ledgerfern.proofs.ledgerfern_cue_write.Goals as goal
 pub returns : goal.returns
 returns c =
     let p = c.write.ensures in
-    record { answered = c.of_cue_written.ensures ∙ ap written_numbers p.answered; out_after = p.out_after }
+    record { answered = c.from.ensures ∙ ap written_numbers p.answered; out_after = p.out_after }

@@ -4,4 +4,4 @@ use Rattle.ledgerfern.specs.Numbers.{playing_numbers}
 use Rattle.ledgerfern.proofs.ledgerfern_playing_at.Goals as goal
 
 pub returns : goal.returns
-returns c = c.of_playing.ensures ∙ ap playing_numbers c.playing_at.ensures
+returns c = c.from.ensures ∙ ap playing_numbers c.playing_at.ensures

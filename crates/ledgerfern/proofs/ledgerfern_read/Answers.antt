@@ -6,4 +6,4 @@ use Rattle.ledgerfern.proofs.ledgerfern_read.Goals as goal
 pub returns : goal.returns
 returns c =
     let p = c.parse_media_playlist.ensures in
-    record { answered = c.of_read.ensures ∙ ap read_numbers p.answered; clips_after = p.clips_after; tags_after = p.tags_after }
+    record { answered = c.from.ensures ∙ ap read_numbers p.answered; clips_after = p.clips_after; tags_after = p.tags_after }

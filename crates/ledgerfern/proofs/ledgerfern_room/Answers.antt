@@ -4,4 +4,4 @@ use Rattle.ledgerfern.specs.Numbers.{room_numbers}
 use Rattle.ledgerfern.proofs.ledgerfern_room.Goals as goal
 
 pub returns : goal.returns
-returns c = c.of_room.ensures ∙ ap room_numbers c.room.ensures
+returns c = c.from.ensures ∙ ap room_numbers c.room.ensures

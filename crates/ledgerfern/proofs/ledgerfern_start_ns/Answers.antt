@@ -4,4 +4,4 @@ use Rattle.ledgerfern.specs.Numbers.{value_numbers}
 use Rattle.ledgerfern.proofs.ledgerfern_start_ns.Goals as goal
 
 pub returns : goal.returns
-returns c = c.of_value.ensures ∙ ap value_numbers c.start_ns.ensures
+returns c = c.from.ensures ∙ ap value_numbers c.start_ns.ensures

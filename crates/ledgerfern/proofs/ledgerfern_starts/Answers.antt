@@ -6,4 +6,4 @@ use Rattle.ledgerfern.proofs.ledgerfern_starts.Goals as goal
 pub returns : goal.returns
 returns c =
     let p = c.all_starts.ensures in
-    record { answered = c.of_starts.ensures ∙ ap starts_numbers p.answered; out_after = p.out_after }
+    record { answered = c.from.ensures ∙ ap starts_numbers p.answered; out_after = p.out_after }

@@ -4,4 +4,4 @@ use Rattle.ledgerfern.specs.Numbers.{verdict_numbers}
 use Rattle.ledgerfern.proofs.ledgerfern_verdict.Goals as goal
 
 pub returns : goal.returns
-returns c = c.of_verdict.ensures ∙ ap verdict_numbers c.is_master_playlist.ensures
+returns c = c.from.ensures ∙ ap verdict_numbers c.is_master_playlist.ensures

@@ -4,4 +4,4 @@ use Rattle.ledgerfern.specs.Numbers.{window_numbers}
 use Rattle.ledgerfern.proofs.ledgerfern_window.Goals as goal
 
 pub returns : goal.returns
-returns c = c.of_window.ensures ∙ ap window_numbers c.window.ensures
+returns c = c.from.ensures ∙ ap window_numbers c.window.ensures

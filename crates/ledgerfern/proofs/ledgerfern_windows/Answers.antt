@@ -6,4 +6,4 @@ use Rattle.ledgerfern.proofs.ledgerfern_windows.Goals as goal
 pub returns : goal.returns
 returns c =
     let p = c.all_windows.ensures in
-    record { answered = c.of_windows.ensures ∙ ap windows_numbers p.answered; out_after = p.out_after }
+    record { answered = c.from.ensures ∙ ap windows_numbers p.answered; out_after = p.out_after }

@@ -4,10 +4,9 @@ use mathlib.Core.Path.{◌≡◌, refl, sym, ◌∙◌, ap}
 use mathlib.Core.Bool.{true}
 use Rattle.tables.specs.Refusal.{given}
 use Rattle.tables.specs.Table.{clips_fit}
-use Rattle.verdict.specs.Answers.{admission}
 use Rattle.tags.specs.Tags.{step}
 use Rattle.media.specs.Answers.{read_seen, parse_answer}
-use Rattle.media.specs.Inside.Passes.{weighed, counted_of}
+use Rattle.media.specs.Inside.Passes.{weighed}
 use Rattle.media.proofs.Answered.{Passed, weighed_on, weighed_refused, weighed_fillable, refused_first, clips_short, tags_short, gives, parsed}
 use Rattle.std.specs.Prelude.{Err}
 use Rattle.text.proofs.Tried.{handed_on}
@@ -44,7 +43,7 @@ fill-requires c =
     }
 
 pub returns-in_err-last : goal.returns-in_err-last
-returns-in_err-last c = parsed _ _ (refused_first step parse_answer _ (weighed_on step _ (text-weighed (goal.at.returns-in_err-last c).In_ok-weigh) (sym c.in_err-last.ensures)) (ap parse_answer (handed_on _ _ c.from_residual.ensures.1)))
+returns-in_err-last c = parsed _ _ (refused_first step parse_answer _ (weighed_on step _ (text-weighed (goal.at.returns-in_err-last c).In_ok-weigh) (sym c.in_err-last.ensures)) (ap parse_answer (handed_on _ _ c.from_residual-in_err-last.ensures.1)))
 
 pub returns : goal.returns
 returns c =

@@ -7,7 +7,7 @@ use Rattle.text.specs.Nom.{Parser, fail, ok}
 use Rattle.lengths.specs.Duration.{Extinf}
 use Rattle.tables.specs.Layout.{tag_words}
 use Rattle.tables.specs.declared.Refused as refusedᵈ
-use Rattle.tables.specs.Refusal.{Answer, refused, given}
+use Rattle.tables.specs.Refusal.{Answer, given}
 use Rattle.tables.specs.Table.{clip_stored, tag_stored}
 use Rattle.tables.specs.Answers.{refusal_of, answer_at}
 use Rattle.verdict.specs.Calls.{admitted, and_then, verdict_of}
