@@ -73,13 +73,10 @@ fn clip_left(clips: &[u64], k: usize, tags: &[u64], tag_count: usize, room: usiz
     requires tags_below { TagsBelow text_limit tags.now tag_count }
     ensures { Leaves room (full_size tags.now (clip_at clips.now k)) (room_of result) }
 {
-    let own = clip_most(clips, k);
-    if room < own {
-        return None;
-    }
+    let left = room.checked_sub(clip_most(clips, k))?;
     let first = held_word(clips, k, layout::FIRST_TAG);
     let count = held_word(clips, k, layout::TAG_COUNT);
-    room::tags_room(tags, first as usize, count as usize, room - own)
+    room::tags_room(tags, first as usize, count as usize, left)
 }
 
 // After all clips.
@@ -115,9 +112,6 @@ pub(crate) fn whole_left(
 {
     let head = size::head_size(h);
     let end = size::mark_size(size::END_LINE, h.end_list);
-    let ends = head + end;
-    if room < ends {
-        return None;
-    }
-    clips_left(clips, clip_count, tags, tag_count, room - ends)
+    let left = room.checked_sub(head + end)?;
+    clips_left(clips, clip_count, tags, tag_count, left)
 }

@@ -7,5 +7,3 @@ use Rattle.measure.proofs.room.clips_room.Given as goal
 abbrev pub invariant-loop-k : goal.invariant-loop-k
 invariant-loop-k l = Measuring (clip_at l.clips) (clips_size l.tags) l.room (clips_size l.tags (clips_at l.clips l.clip_count)) l.clip_count l.left l.k
 
-abbrev pub decreases-loop-k : goal.decreases-loop-k
-decreases-loop-k l = l.clip_count - l.k
