@@ -75,13 +75,6 @@ pub record Measuring {A : Type 0} (at : ℕ → A) (long : List A → ℕ) (room
   pub same : room_for rest (long (listed at k (end - k))) ≡ room_for room whole
   pub turn : k ≤ end
 
-module _ {A : Type 0} (at : ℕ → A) (long : List A → ℕ) (room : ℕ) where
-  -- n records from record `from` on
-  pub measure_none : (from n : ℕ) → Measuring at long room (long (listed at from n)) (from + n) room from
-  measure_none from n =
-      let e : from + n - from ≡ n = omega arith in
-      record { same = ap (λ (m : ℕ). room_for room (long (listed at from m))) e; turn = omega arith }
-
 module _ {A : Type 0} {at : ℕ → A} {long : List A → ℕ} {room whole end rest k : ℕ} (h : Measuring at long room whole end rest k) where
   pub measure_end : long [] ≡ 0 → end ≤ k → left rest ≡ room_for room whole
   measure_end z l = room_none rest ∙ ap (room_for rest) (sym z) ∙ ap (λ (xs : List A). room_for rest (long xs)) (sym (listed_over at k end l)) ∙ h.same
