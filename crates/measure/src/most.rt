@@ -80,7 +80,13 @@ fn clip_left(clips: &[u64], k: usize, tags: &[u64], tag_count: usize, room: usiz
 }
 
 // After all clips.
-fn clips_left(clips: &[u64], clip_count: usize, tags: &[u64], tag_count: usize, room: usize) -> Option<usize>
+fn clips_left(
+    clips: &[u64],
+    clip_count: usize,
+    tags: &[u64],
+    tag_count: usize,
+    room: usize,
+) -> Option<usize>
     requires clip_words_in_bounds { clip_count * layout.clip_words ≤ length clips.now }
     requires table_below { TableBelow text_limit clips.now clip_count }
     requires runs_within { RunsWithin clips.now clip_count tag_count }

@@ -40,7 +40,13 @@ fn clip_room(tags: &[u64], tag_count: usize, c: Clip, room: usize) -> Option<usi
 }
 
 // After all clips.
-fn clips_room(clips: &[u64], clip_count: usize, tags: &[u64], tag_count: usize, room: usize) -> Option<usize>
+fn clips_room(
+    clips: &[u64],
+    clip_count: usize,
+    tags: &[u64],
+    tag_count: usize,
+    room: usize,
+) -> Option<usize>
     requires runs_within { RunsWithin clips.now clip_count tag_count }
     requires tags_below { TagsBelow text_limit tags.now tag_count }
     requires clips_below { ClipsBelow text_limit clips.now clip_count }

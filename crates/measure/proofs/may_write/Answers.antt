@@ -9,7 +9,6 @@ use Rattle.measure.specs.Inside.Room.{room_of}
 use Rattle.measure.proofs.Rule.{rule_below, rule_bound}
 use Rattle.measure.proofs.Rooms.{fits_room, leaves_some}
 use Rattle.measure.proofs.Answered.{too_long, breaks_rule, too_short, has_room}
-use native.Mathlib.Omega.{arith}
 use mathlib.Core.Path.{◌≡◌}
 use borrow.Author.Rules.{rules}
 use Rattle.measure.proofs.may_write.Goals as goal
