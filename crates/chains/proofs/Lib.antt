@@ -4,7 +4,7 @@ pub mod Pairs
 pub mod Leads
 -- what is held of a list that meets another
 pub mod Overlaid
--- tests of places
+-- a chain that goes on, and the pair behind blanks
 pub mod Tests
 -- the words of what is kept
 pub mod Words

@@ -1,37 +1,21 @@
--- Tests of places, as the code makes them and as the rules do; and a chain that goes on. Assumes nothing.
-use Prim.Native.Nat.{ℕ, ◌+◌, ◌-◌, ◌<◌}
-use mathlib.Core.Path.{◌≡◌, refl, sym, ◌∙◌}
-use mathlib.Core.Bool.{Bool, true, false, ◌&&◌, false≢true}
+-- A chain that goes on, names that make no pair, and the pair behind blanks. Assumes nothing.
+use Prim.Native.Nat.{ℕ, ◌+◌}
+use mathlib.Core.Path.{◌≡◌, refl, ◌∙◌}
+use mathlib.Core.Bool.{true, ◌&&◌, false≢true}
 use mathlib.Core.List.{List}
 use mathlib.Core.Option.{Option, none, some}
 use native.Mathlib.Omega.{arith}
 use lib.Dec.{ltb, leb}
-use borrow.Author.Tests.{leb-true, leb-false, le-leb, lt-leb, lt-ltb}
+use borrow.Author.Tests.{leb-true}
 use Rattle.text.specs.Nom.{ok, Span, span}
 use Rattle.attributes.specs.Pairs.{QuotedOrUnquoted, pair, next_pair}
-use Rattle.chains.specs.Inside.Kept.{Chain, chain, present, Forward, is_silent}
+use Rattle.chains.specs.Inside.Kept.{Chain, chain, present, Forward}
 use Rattle.text.specs.Nom.{fail, bytes, is_none_of, run_end, is_space}
 use Rattle.text.proofs.Laws.{and_left, and_right}
-use Rattle.text.specs.Answers.{why_of}
-use Rattle.attributes.specs.declared.pair.PairRes.{PairRes}
-use Rattle.attributes.specs.declared.pair.PairRes.TheVariants as pairResᵛ
 use Rattle.attributes.specs.Pairs.{Pair, key_value_pair}
-use Rattle.attributes.specs.Answers.{pair_res}
 use Rattle.chains.specs.Inside.Kept.{begins_name, Fails, Silent}
-use Rattle.chains.specs.Inside.Answers.{PairOk, PairThere}
 use Rattle.chains.proofs.Leads.{chain_step}
 use Rattle.chains.proofs.Pairs.{next_pair_lem, fails_inside}
-
--- one place less on one side is one more on the other
-leb_before : (s i : ℕ) → 0 < s → leb (s - 1) i ≡ leb s (i + 1)
-leb_before s i h = go (leb (s - 1) i) refl
-  where
-    go : (b : Bool) → leb (s - 1) i ≡ b → leb (s - 1) i ≡ leb s (i + 1)
-    go true e = rw (e, le-leb s (i + 1) (omega (arith, leb-true (s - 1) i e)))
-    go false e = rw (e, lt-leb s (i + 1) (omega (arith, leb-false (s - 1) i e)))
-
-pub silent_within : (s e i : ℕ) → 0 < s → (leb (s - 1) i && leb i e) ≡ is_silent (span s e) i
-silent_within s e i h = rw (lt-ltb 0 s h, leb_before s i h)
 
 -- a chain that is kept, one pair on
 pub chain_on : (text : List ℕ) (c : Chain) (n : Span) (v : QuotedOrUnquoted) (k : ℕ) → present c.value ≡ true → next_pair text c.next ≡ ok (pair n v) k
@@ -41,22 +25,6 @@ chain_on text c n v k h r = go c.value refl h
     go : (x : Option QuotedOrUnquoted) → c.value ≡ x → present x ≡ true → Forward text c (chain n (some v) k c.end)
     go none e h' = absurd (false≢true h')
     go (some u) e h' = chain_step text c u n v k e r
-
--- no chain
-pub forward_none : (text : List ℕ) (c d : Chain) → d.value ≡ none → Forward text c d
-forward_none text c d e names kept t v q = absurd (nothing (sym e ∙ q))
-  where
-    nothing : none ≡ some v → ⊥
-    nothing z = let w : ◌≡◌ {A = ℕ} 0 1 = cc in omega arith
-
--- ---- what a pair that was tried says
-pub pair_there : (text : List ℕ) (at : ℕ) (r : PairRes) → pair_res r ≡ key_value_pair text at → PairThere text at r
-pair_there text at (pairResᵛ.Fail why) e = record { why = why_of why; fails = sym e }
-pair_there text at (pairResᵛ.Ok p n) e = sym e
-
-pub pair_ok : (text : List ℕ) (at : ℕ) (r : PairRes) → pair_res r ≡ key_value_pair text at → PairOk text at r
-pair_ok text at (pairResᵛ.Fail why) e = tt
-pair_ok text at (pairResᵛ.Ok p n) e = sym e
 
 -- a name that makes no pair, and all that begin within it
 pub noted_true : (text : List ℕ) (at e : ℕ) → Fails text at → begins_name text at ≡ true → e ≡ run_end (is_none_of (bytes "=")) text at → Silent text (span (at + 1) e)

@@ -40,8 +40,6 @@ fn is_silent(names: Span, at: usize) -> bool
 fn noted(text: &[u8], f: Failing, at: usize) -> Failing
     ensures { NotesAs text.now at (failing_seen f) (failing_seen result) }
 {
-    let dead = f.dead;
-    let none = f.none;
     if text.len() <= at {
         return f;
     }
@@ -51,9 +49,9 @@ fn noted(text: &[u8], f: Failing, at: usize) -> Failing
         end: equals,
     };
     if equals < text.len() {
-        return Failing { dead: found, none };
+        return Failing { dead: found, ..f };
     }
-    Failing { dead, none: found }
+    Failing { none: found, ..f }
 }
 
 // The pair whose name begins here. A name that is known to make none is not looked at again.
@@ -61,15 +59,7 @@ pub(crate) fn pair_at(text: &[u8], at: usize, f: Failing) -> Tried
     ensures pair_ok { PairOk text.now at result.pair }
     ensures tried_pair { rule.TrueFailing text.now (failing_seen f) → TriedPair text.now at result }
 {
-    let dead = f.dead;
-    let none = f.none;
-    if is_silent(dead, at) {
-        return Tried {
-            pair: Err(Why::OtherText),
-            fails: f,
-        };
-    }
-    if is_silent(none, at) {
+    if is_silent(f.dead, at) || is_silent(f.none, at) {
         return Tried {
             pair: Err(Why::OtherText),
             fails: f,

@@ -70,17 +70,13 @@ fn value_words(value: Option<QuotedOrUnquoted>) -> ValueWords
 fn memory_words(m: Memory) -> [u64; PLACE_WORDS]
     ensures { result ≡ rule.memory_words (memory_seen m) }
 {
-    let first = m.first;
-    let second = m.second;
-    let fails = m.fails;
-    let value = first.value;
-    let value = value_words(value);
-    let value_2 = second.value;
-    let value_2 = value_words(value_2);
-    let name = first.name;
-    let name_2 = second.name;
-    let dead = fails.dead;
-    let none = fails.none;
+    let Memory {
+        first,
+        second,
+        fails,
+    } = m;
+    let value = value_words(first.value);
+    let value_2 = value_words(second.value);
     [
         value.kind,
         value.start,
@@ -88,18 +84,18 @@ fn memory_words(m: Memory) -> [u64; PLACE_WORDS]
         value_2.kind,
         value_2.start,
         value_2.end,
-        name.start as u64,
-        name.end as u64,
+        first.name.start as u64,
+        first.name.end as u64,
         first.next as u64,
         first.end as u64,
-        name_2.start as u64,
-        name_2.end as u64,
+        second.name.start as u64,
+        second.name.end as u64,
         second.next as u64,
         second.end as u64,
-        dead.start as u64,
-        dead.end as u64,
-        none.start as u64,
-        none.end as u64,
+        fails.dead.start as u64,
+        fails.dead.end as u64,
+        fails.none.start as u64,
+        fails.none.end as u64,
     ]
 }
 

@@ -129,30 +129,16 @@ fn joined(
 }
 
 // Saves what is kept, with this chain and what is held of its list in the place of the second one or of the first.
-fn renew(memory: &mut [u64], first: Chain, second: Chain, fails: Failing, c: Chain, held: &[u64])
+fn renew(memory: &mut [u64], m: Memory, c: Chain, held: &[u64])
     requires { rule.place_words + 2 * length held.now ≤ length memory.old }
-    ensures { RenewsAs (rule.memory (chain_seen first) (chain_seen second) (failing_seen fails)) (chain_seen c) held.now memory.old memory.new }
+    ensures { RenewsAs (memory_seen m) (chain_seen c) held.now memory.old memory.new }
 {
-    if chain::is_kept(first) {
-        kept::save(
-            memory,
-            Memory {
-                first,
-                second: c,
-                fails,
-            },
-        );
+    if chain::is_kept(m.first) {
+        kept::save(memory, Memory { second: c, ..m });
         kept::lay(memory, PLACE_WORDS + held.len(), held);
         return;
     }
-    kept::save(
-        memory,
-        Memory {
-            first: c,
-            second,
-            fails,
-        },
-    );
+    kept::save(memory, Memory { first: c, ..m });
     kept::lay(memory, PLACE_WORDS, held);
 }
 
@@ -164,24 +150,22 @@ fn walk_beside(
     sizes: &[usize],
     held: &mut [u64],
     memory: &[u64],
-    first: Chain,
-    second: Chain,
-    f: Failing,
+    m: Memory,
 ) -> Walked
     requires { rule.place_words + 2 * length held.old ≤ length memory.now }
-    ensures { BesideAs text.now (words names.now sizes.now) at (rule.memory (chain_seen first) (chain_seen second) (failing_seen f)) memory.now held.old held.new result }
+    ensures { BesideAs text.now (words names.now sizes.now) at (memory_seen m) memory.now held.old held.new result }
 {
     let middle = PLACE_WORDS + held.len();
     let last = middle + held.len();
-    if chain::is_kept(first) {
+    if chain::is_kept(m.first) {
         return walk(
             text,
             at,
             names,
             sizes,
             held,
-            f,
-            first,
+            m.fails,
+            m.first,
             &memory[PLACE_WORDS..middle],
         );
     }
@@ -191,8 +175,8 @@ fn walk_beside(
         names,
         sizes,
         held,
-        f,
-        second,
+        m.fails,
+        m.second,
         &memory[middle..last],
     )
 }
@@ -211,17 +195,15 @@ fn begun_with(
     requires { rule.place_words + 2 * length held.old ≤ length memory.old }
     ensures { BegunWith text.now (words names.now sizes.now) (pair_of p) after (memory_seen m) memory.old held.old held.new result memory.new }
 {
-    let first = m.first;
-    let second = m.second;
-    let fails = m.fails;
     list::insert(text, p, names, sizes, held);
-    let walked = walk_beside(
-        text, after, names, sizes, held, memory, first, second, fails,
-    );
-    let fails = walked.fails;
+    let walked = walk_beside(text, after, names, sizes, held, memory, m);
     let end = walked.end;
     let own = chain::begun(p, after, end);
-    renew(memory, first, second, fails, own, held);
+    let m = Memory {
+        fails: walked.fails,
+        ..m
+    };
+    renew(memory, m, own, held);
     end
 }
 
@@ -238,15 +220,10 @@ fn begun(
     requires { rule.place_words + 2 * length held.old ≤ length memory.old }
     ensures { BegunAs text.now (words names.now sizes.now) at (memory_seen m) memory.old held.old held.new result memory.new }
 {
-    let first = m.first;
-    let second = m.second;
-    let fails = m.fails;
-    let tried = failing::pair_at(text, blocks::while_two(text, at, b' ', b'\t'), fails);
-    let fails = tried.fails;
+    let tried = failing::pair_at(text, blocks::while_two(text, at, b' ', b'\t'), m.fails);
     let m = Memory {
-        first,
-        second,
-        fails,
+        fails: tried.fails,
+        ..m
     };
     let Ok((p, after)) = tried.pair else {
         kept::save(memory, m);
@@ -316,12 +293,10 @@ fn remembered(
 {
     let m = chain::forward_all(text, kept::load(memory), at);
     let name = blocks::while_two(text, at, b' ', b'\t');
-    let first = m.first;
-    if joins(text, name, first) {
+    if joins(text, name, m.first) {
         return join_first(text, name, names, sizes, held, memory, m);
     }
-    let second = m.second;
-    if joins(text, name, second) {
+    if joins(text, name, m.second) {
         return join_second(text, name, names, sizes, held, memory, m);
     }
     begun(text, at, names, sizes, held, memory, m)

@@ -1,12 +1,12 @@
 -- The public calls' answers, row by row of 01's table: the fronts that calls share, and each call's value once they are passed.
 -- Rests on the laws of fronts. Assumes nothing.
-use mathlib.Core.Path.{◌≡◌, ◌∙◌}
-use mathlib.Core.Bool.{true, false, ◌&&◌, and-false, and-eq-true_iff}
+use mathlib.Core.Path.{◌≡◌, refl, ◌∙◌}
+use mathlib.Core.Bool.{Bool, true, false, ◌&&◌, and-eq-true_iff}
 use mathlib.Core.List.{List}
 use Prim.Native.Nat.{ℕ, ◌+◌, ◌*◌, ◌≤◌, ◌<◌}
 use lib.Dec.{leb, ltb}
 use borrow.Author.Tests.{le-leb, lt-leb, leb-true, lt-ltb, le-ltb, ltb-true}
-use Rattle.tables.specs.Refusal.{Answer, refused, given, broken_table, total_too_long, bad_rate, turn_too_late, no_such_clip}
+use Rattle.tables.specs.Refusal.{Answer, refused, given, or_refuse, broken_table, total_too_long, bad_rate, turn_too_late, no_such_clip}
 use Rattle.tables.proofs.Refusals.{Front, front_or, front_then, front_as}
 use Rattle.tables.specs.Layout.{second}
 use Rattle.clock.specs.Clock.{largest_total, largest_rate, last_turn, sum_lengths, keeps_rule, moment_of, tick_of, ticks_of}
@@ -53,13 +53,13 @@ module _ (t : List ℕ) (n rate : ℕ) where
       (front_then _ _ (timed_front t n) (front_or bad_rate 0 (leb 1 rate && leb rate largest_rate)))
 
   module _ {A : Type 0} (x : Answer A) (g : Timed t n) where
-    pub rate_12_low : rate < 1 → at_rate t n rate x ≡ refused bad_rate 0
+    pub rate_12 : (1 ≤ rate → largest_rate < rate) → at_rate t n rate x ≡ refused bad_rate 0
     unfolding at_rate
-    rate_12_low l = (timed_front t n).on _ g ∙ rw (lt-leb 1 rate l)
-
-    pub rate_12_high : largest_rate < rate → at_rate t n rate x ≡ refused bad_rate 0
-    unfolding at_rate
-    rate_12_high h = (timed_front t n).on _ g ∙ rw (lt-leb rate largest_rate h, and-false (leb 1 rate))
+    rate_12 h = (timed_front t n).on _ g ∙ by_rate (leb 1 rate) refl
+      where
+        by_rate : (b : Bool) → leb 1 rate ≡ b → or_refuse (leb 1 rate && leb rate largest_rate) bad_rate 0 x ≡ refused bad_rate 0
+        by_rate true e = rw (e, lt-leb rate largest_rate (h (leb-true 1 rate e)))
+        by_rate false e = rw e
 
 -- ---- 13
 pub record InTurn (t : List ℕ) (n rate turn : ℕ) : Type 0 where

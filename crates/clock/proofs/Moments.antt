@@ -1,13 +1,13 @@
 -- Ticks over the clock's definitions, as 01 asks: within one tick of the moment, the only such number, never falling, and summing to the turn's.
 -- Rests on `sum_mono`. Assumes nothing.
 use mathlib.Core.Path.{◌≡◌, refl, sym, ap, ◌∙◌}
-use mathlib.Core.Bool.{Bool, true, false}
+use mathlib.Core.Bool.{Bool, true, false, cond, and-eq-true_iff}
 use mathlib.Core.List.{List}
-use Prim.Native.Nat.{ℕ, zero, suc, ◌+◌, ◌-◌, ◌*◌, ◌/◌, ◌%◌, ◌^◌, ◌≤◌, ◌<◌}
-use native.Mathlib.Nat.{mul-le-mul, mul-le-mul_right, div-mul-le_self, div-add-mod', lt-div-mul-add, mul-add-div_right}
+use Prim.Native.Nat.{ℕ, zero, suc, ◌+◌, ◌-◌, ◌*◌, ◌/◌, ◌%◌, ◌≤◌, ◌<◌}
+use native.Mathlib.Nat.{mul-le-mul_right, div-mul-le_self, div-add-mod', lt-div-mul-add, mul-add-div_right}
 use native.Mathlib.Omega.{arith}
-use lib.Dec.{lit<, ltb}
-use borrow.Author.Tests.{ltb-false, le-leb}
+use lib.Dec.{lit<, leb, ltb}
+use borrow.Author.Tests.{ltb-false, le-leb, leb-true}
 use Rattle.tables.specs.Layout.{second}
 use Rattle.clock.specs.Clock.{largest_total, largest_rate, turns, sum_lengths, moment_of, next_moment, tick_of, ticks_of, sum_ticks}
 use Rattle.clock.specs.Inside.Ticks.{in_reach, tick_at}
@@ -100,28 +100,6 @@ tick_parts turn whole before rate =
     = omega (arith, ap (λ (x : ℕ). turn * x) (div-add-mod' whole second), div-add-mod' rest second) in
     sym (rw e (tick_split (seconds_of turn whole before) (rest % second) rate))
 
--- each piece is far below 2^64
-abbrev many_seconds : ℕ
-many_seconds = 2 * 10 ^ 12
-
-pub record Small (turn whole before : ℕ) : Type 0 where
-  pub rest : rest_of turn whole before ≤ 2 * largest_total
-  pub seconds : seconds_of turn whole before ≤ many_seconds
-
-pub small : (turn whole before : ℕ) → turn ≤ turns → whole ≤ largest_total → before ≤ whole → Small turn whole before
-small turn whole before ht hw hb =
-    let p : turn * (whole % second) ≤ turns * second = mul-le-mul {n₂ = turns} {m₂ = second} ht (omega arith) in
-    let q : turn * (whole / second) ≤ turns * (largest_total / second) = mul-le-mul {n₂ = turns} {m₂ = largest_total / second} ht (omega arith) in
-    record { rest = omega arith; seconds = omega arith }
-
-pub product_fits : {x rate : ℕ} → x ≤ many_seconds → rate ≤ largest_rate → x * rate < 2 ^ 64
-product_fits h r = omega (arith, mul-le-mul {n₂ = many_seconds} h r)
-
-pub sum_fits : {x y rate : ℕ} → x ≤ many_seconds → y < second → rate ≤ largest_rate → x * rate + y * rate / second < 2 ^ 64
-sum_fits {x} {y} {rate} h l r =
-    let p : y * rate ≤ second * largest_rate = mul-le-mul {n₂ = second} (omega arith) r in
-    omega (arith, mul-le-mul {n₂ = many_seconds} h r)
-
 -- ---- a tick for any numbers: in reach it is the moment's
 module _ (turn whole before rate : ℕ) (t : turn ≤ turns) (w : whole ≤ largest_total) (b : before ≤ whole) (r : rate ≤ largest_rate) where
   in_reach_lem : in_reach turn whole before rate ≡ true
@@ -131,3 +109,18 @@ module _ (turn whole before rate : ℕ) (t : turn ≤ turns) (w : whole ≤ larg
   pub tick_in_reach : tick_at turn whole before rate ≡ tick_of (turn * whole + before) rate
   unfolding tick_at
   tick_in_reach = rw in_reach_lem
+
+-- past a limit there is none
+pub tick_past : (turn whole before rate : ℕ) → ((turn ≤ turns) × (whole ≤ largest_total) × (before ≤ whole) × (rate ≤ largest_rate) → ⊥) → tick_at turn whole before rate ≡ 0
+unfolding tick_at in_reach
+tick_past turn whole before rate h = go (in_reach turn whole before rate) refl
+  where
+    reach : in_reach turn whole before rate ≡ true → (turn ≤ turns) × (whole ≤ largest_total) × (before ≤ whole) × (rate ≤ largest_rate)
+    reach e =
+        let a = (and-eq-true_iff (leb turn turns) _).0 e in let b = (and-eq-true_iff (leb whole largest_total) _).0 a.1 in
+        let d = (and-eq-true_iff (leb before whole) (leb rate largest_rate)).0 b.1 in
+        (leb-true _ _ a.0, leb-true _ _ b.0, leb-true _ _ d.0, leb-true _ _ d.1)
+
+    go : (b : Bool) → in_reach turn whole before rate ≡ b → cond b (tick_of (turn * whole + before) rate) 0 ≡ 0
+    go true e = absurd (h (reach e))
+    go false e = refl

@@ -1,39 +1,40 @@
 -- From the code's results to the rules: what a front's result tells, and the numbers in hand as the rule's. Rests on the laws of fronts.
 -- Assumes nothing.
-use mathlib.Core.Path.{◌≡◌, sym, ap, ◌∙◌}
+use mathlib.Core.Path.{◌≡◌, sym, ◌∙◌}
 use mathlib.Core.List.{List}
 use Prim.Native.Nat.{ℕ, suc, ◌+◌, ◌-◌, ◌*◌, ◌≤◌, ◌<◌, min}
 use native.Mathlib.Numerals.{add-one}
 use native.Mathlib.Omega.{arith}
-use Rattle.tables.specs.Refusal.{Answer, given}
-use Rattle.tables.specs.Answers.{refusal_of}
+use Rattle.std.specs.Prelude.{Result}
+use Rattle.std.specs.Result.{IsErrAnd}
+use Rattle.std.proofs.lemmas.Result.{err_from_is_err_and}
 use Rattle.tables.specs.declared.Refusal as refusalᵈ
+use Rattle.tables.specs.Answers.{refusal_of, answer}
+use Rattle.tables.specs.Refusal.{Answer, refused, given}
 use Rattle.tables.proofs.Refusals.{RefusesAs}
-use Rattle.clock.specs.declared.Answer as answerᵈ
-use Rattle.clock.specs.declared.Answer.TheVariants as answerᵛ
-use Rattle.clock.specs.Answers.{answer_of}
 use Rattle.clock.specs.Clock.{largest_total, sum_lengths, moment_of, tick_of, ticks_of}
 use Rattle.clock.specs.Calls.{at_rate, in_turn, of_clip, total}
 use Rattle.clock.proofs.Lengths.{sum_mono}
 use Rattle.clock.proofs.Moments.{next_moment_lem, clips_rise}
 use Rattle.clock.proofs.Calls.{Timed, timed_front, AtRate, rate_front, InTurn, turn_front, clip_turn_front}
 
--- a result that refuses meets every rule that refuses alike
-pub refused_result : (x y : Answer ℕ) (a : answerᵈ.Answer) (r : refusalᵈ.Refusal) → RefusesAs x y → answer_of a ≡ x → a ≡ answerᵛ.Refused r → answer_of a ≡ y
-refused_result x y a r f p e = ap answer_of e ∙ sym (f (refusal_of r) 0 (sym p ∙ ap answer_of e))
+-- a refusal that `?` hands on meets every rule that refuses as the one does that it came from
+pub refused_result : {A B C : Type 0} (f : A → B) (x : Answer C) (y : Answer B) (r : Result A refusalᵈ.Refusal) (e : refusalᵈ.Refusal)
+    → IsErrAnd r (λ d. d ≡ e) → RefusesAs x y → refused (refusal_of e) 0 ≡ x → answer f r ≡ y
+refused_result f x y r e h g q = let p = err_from_is_err_and r h in rw (p.1, p.2) (sym (g (refusal_of e) 0 (sym q)))
 
 -- ---- what a front gives is the total
-pub total_result : (t : List ℕ) (n v : ℕ) (a : answerᵈ.Answer) → answer_of a ≡ total t n → a ≡ answerᵛ.Given v → Timed t n
+pub total_result : (t : List ℕ) (n v : ℕ) → given v ≡ total t n → Timed t n
 unfolding total
-total_result t n v a p e = ((timed_front t n).passed _ v (sym p ∙ ap answer_of e)).0
+total_result t n v e = ((timed_front t n).passed _ v (sym e)).0
 
 pub record Rated (t : List ℕ) (n rate whole : ℕ) : Type 0 where
   pub on : AtRate t n rate
   pub sum : whole ≡ sum_lengths t n
 
-pub rate_result : (t : List ℕ) (n rate v : ℕ) (a : answerᵈ.Answer) → answer_of a ≡ at_rate t n rate (given (sum_lengths t n)) → a ≡ answerᵛ.Given v → Rated t n rate v
-rate_result t n rate v a p e =
-    let g = (rate_front t n rate).passed _ v (sym p ∙ ap answer_of e) in
+pub rate_result : (t : List ℕ) (n rate v : ℕ) → given v ≡ at_rate t n rate (given (sum_lengths t n)) → Rated t n rate v
+rate_result t n rate v e =
+    let g = (rate_front t n rate).passed _ v (sym e) in
     let q : given (sum_lengths t n) ≡ given v = g.1 in
     record { on = g.0; sum = cc }
 
@@ -41,16 +42,16 @@ pub record Whole (t : List ℕ) (n rate turn whole : ℕ) : Type 0 where
   pub on : InTurn t n rate turn
   pub sum : whole ≡ sum_lengths t n
 
-module _ (t : List ℕ) (n rate turn v : ℕ) (a : answerᵈ.Answer) where
-  pub turn_result : answer_of a ≡ in_turn t n rate turn (given (sum_lengths t n)) → a ≡ answerᵛ.Given v → Whole t n rate turn v
-  turn_result p e =
-      let g = (turn_front t n rate turn).passed _ v (sym p ∙ ap answer_of e) in
+module _ (t : List ℕ) (n rate turn v : ℕ) where
+  pub turn_result : given v ≡ in_turn t n rate turn (given (sum_lengths t n)) → Whole t n rate turn v
+  turn_result e =
+      let g = (turn_front t n rate turn).passed _ v (sym e) in
       let q : given (sum_lengths t n) ≡ given v = g.1 in
       record { on = g.0; sum = cc }
 
-  pub clip_result : (clip : ℕ) → answer_of a ≡ in_turn t n rate turn (of_clip n clip (given (sum_lengths t n))) → a ≡ answerᵛ.Given v → Whole t n rate turn v × (clip < n)
-  clip_result clip p e =
-      let g = (clip_turn_front t n rate turn clip).passed _ v (sym p ∙ ap answer_of e) in
+  pub clip_result : (clip : ℕ) → given v ≡ in_turn t n rate turn (of_clip n clip (given (sum_lengths t n))) → Whole t n rate turn v × (clip < n)
+  clip_result clip e =
+      let g = (clip_turn_front t n rate turn clip).passed _ v (sym e) in
       let q : given (sum_lengths t n) ≡ given v = g.1 in
       (record { on = g.0.0; sum = cc }, g.0.1)
 

@@ -1,10 +1,8 @@
 -- What each answer of the code says, in the words of the rules. Assumes nothing.
-use Rattle.std.specs.Prelude.{ℕ}
-use Rattle.tables.specs.Refusal.{Answer, refused, given}
-use Rattle.tables.specs.Answers.{refusal_of}
-use Rattle.clock.specs.declared.Answer as answerᵈ
-use Rattle.clock.specs.declared.Answer.TheVariants as answerᵛ
+use Rattle.std.specs.Prelude.{ℕ, Result}
+use Rattle.tables.specs.declared.Refusal as refusalᵈ
+use Rattle.tables.specs.Refusal.{Answer}
+use Rattle.tables.specs.Answers.{answer}
 
-abbrev pub answer_of : answerᵈ.Answer → Answer ℕ
-answer_of (answerᵛ.Refused r) = refused (refusal_of r) 0
-answer_of (answerᵛ.Given n) = given n
+abbrev pub answer_of : Result ℕ refusalᵈ.Refusal → Answer ℕ
+answer_of = answer (λ n. n)

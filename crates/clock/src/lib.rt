@@ -1,5 +1,6 @@
 // The exact clock over a lent table of clip records: totals, starts and ticks in whole numbers, cut to a tick once, at the end.
 // Each call answers for every table and every number: the count is compared without overflow, and the sum stops at its limit.
+// Words and count come apart, as the C interface has them: any count may come with any words, so that a struct of both would promise nothing.
 #![tactic(auto)]
 
 pub mod turns; // starts and lengths in ticks of a turn
@@ -16,6 +17,8 @@ use tables::{Refusal, layout, record};
 
 pub const LARGEST_TOTAL: u64 = 1_000_000_000_000_000;
 
+const SMALLEST_RATE: u64 = 1;
+
 pub const LARGEST_RATE: u64 = 90_000;
 
 pub const LAST_TURN: u64 = 999_999;
@@ -23,39 +26,20 @@ pub const LAST_TURN: u64 = 999_999;
 // How many turns there are. The last one ends where the turn of this number would start.
 pub const TURNS: u64 = LAST_TURN + 1;
 
-// A call's answer: 01's refusal, at place 0, or a number of ns or of ticks.
-#[derive(Clone, Copy)]
-pub enum Answer {
-    Refused(Refusal),
-    Given(u64),
-}
-
 // One length more. The sum stops just above the largest total, so that no table makes it overflow.
 fn added(sum: u64, length: u64) -> u64
     ensures { result ≡ min (sum + length) (clock.largest_total + 1) }
 {
-    if LARGEST_TOTAL < sum {
-        return LARGEST_TOTAL + 1;
-    }
-    if LARGEST_TOTAL - sum < length {
-        return LARGEST_TOTAL + 1;
-    }
-    sum + length
+    sum.saturating_add(length).min(LARGEST_TOTAL + 1)
 }
 
-// The sum of the first lengths. It stops as soon as it is above the largest total.
+// The sum of the first lengths, as far as `added` goes.
 fn sum_upto(words: &[u64], clips: usize) -> u64
     ensures { result ≡ min (clock.sum_lengths words.now clips) (clock.largest_total + 1) }
 {
     let mut sum = 0u64;
-    let mut k = 0usize;
-    while k < clips {
-        let length = record::clip_word(words, k, layout::LENGTH);
-        if LARGEST_TOTAL - sum < length {
-            return LARGEST_TOTAL + 1;
-        }
-        sum += length;
-        k += 1;
+    for k in 0..clips {
+        sum = added(sum, record::clip_word(words, k, layout::LENGTH));
     }
     sum
 }
@@ -75,85 +59,62 @@ fn tick_of(turn: u64, whole: u64, before: u64, rate: u64) -> u64
 pub fn tick_at(turn: u64, whole: u64, before: u64, rate: u64) -> u64
     ensures { result ≡ inside.tick_at turn whole before rate }
 {
-    if TURNS < turn {
-        return 0;
-    }
-    if LARGEST_TOTAL < whole {
-        return 0;
-    }
-    if whole < before {
-        return 0;
-    }
-    if LARGEST_RATE < rate {
+    if TURNS < turn || LARGEST_TOTAL < whole || whole < before || LARGEST_RATE < rate {
         return 0;
     }
     tick_of(turn, whole, before, rate)
 }
 
 // All lengths together, in ns, in one pass: rule 9 is weighed of every length before the sum is. The calls below weigh these refusals first: 9, 11.
-pub fn total(words: &[u64], clips: usize) -> Answer
+pub fn total(words: &[u64], clips: usize) -> Result<u64, Refusal>
     ensures { answer_of result ≡ rule.total words.now clips }
 {
     if !record::clips_fit(words, clips) {
-        return Answer::Refused(Refusal::BrokenTable);
+        return Err(Refusal::BrokenTable);
     }
     let mut sum = 0u64;
-    let mut k = 0usize;
-    while k < clips {
+    for k in 0..clips {
         let length = record::clip_word(words, k, layout::LENGTH);
         if layout::LENGTH_LIMIT <= length {
-            return Answer::Refused(Refusal::BrokenTable);
+            return Err(Refusal::BrokenTable);
         }
         sum = added(sum, length);
-        k += 1;
     }
     if LARGEST_TOTAL < sum {
-        return Answer::Refused(Refusal::TotalTooLong);
+        return Err(Refusal::TotalTooLong);
     }
-    Answer::Given(sum)
+    Ok(sum)
 }
 
 // The total, where the rate is in its limits too: 9, 11, 12.
-pub fn at_rate(words: &[u64], clips: usize, rate: u64) -> Answer
+pub fn at_rate(words: &[u64], clips: usize, rate: u64) -> Result<u64, Refusal>
     ensures { answer_of result ≡ rule.at_rate words.now clips rate (given (clock.sum_lengths words.now clips)) }
 {
-    let all = total(words, clips);
-    let Answer::Given(_) = all else {
-        return all;
-    };
-    if rate < 1 {
-        return Answer::Refused(Refusal::BadRate);
+    let whole = total(words, clips)?;
+    if rate < SMALLEST_RATE || LARGEST_RATE < rate {
+        return Err(Refusal::BadRate);
     }
-    if LARGEST_RATE < rate {
-        return Answer::Refused(Refusal::BadRate);
-    }
-    all
+    Ok(whole)
 }
 
 // And the turn too: 9, 11, 12, 13.
-pub fn in_turn(words: &[u64], clips: usize, rate: u64, turn: u64) -> Answer
+pub fn in_turn(words: &[u64], clips: usize, rate: u64, turn: u64) -> Result<u64, Refusal>
     ensures { answer_of result ≡ rule.in_turn words.now clips rate turn (given (clock.sum_lengths words.now clips)) }
 {
-    let all = at_rate(words, clips, rate);
-    let Answer::Given(_) = all else {
-        return all;
-    };
+    let whole = at_rate(words, clips, rate)?;
     if LAST_TURN < turn {
-        return Answer::Refused(Refusal::TurnTooLate);
+        return Err(Refusal::TurnTooLate);
     }
-    all
+    Ok(whole)
 }
 
 // The start of a clip within its turn, in ns: all earlier lengths.
-pub fn start_ns(words: &[u64], clips: usize, clip: usize) -> Answer
+pub fn start_ns(words: &[u64], clips: usize, clip: usize) -> Result<u64, Refusal>
     ensures { answer_of result ≡ rule.start_ns words.now clips clip }
 {
-    let all = total(words, clips);
-    let Answer::Given(_) = all else {
-        return all;
-    };
+    total(words, clips)?;
     if clips <= clip {
-        return Answer::Refused(Refusal::NoSuchClip);
+        return Err(Refusal::NoSuchClip);
     }
-    Answer::Given(sum_upto(words, clip))
+    Ok(sum_upto(words, clip))
 }

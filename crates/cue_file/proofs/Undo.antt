@@ -1,5 +1,6 @@
 -- Writer and reader undo each other, by the promises of their calls: what was written reads back clip by clip, what was read, written again, is the file it
 -- was, two lists have one file only where they are the same list. For any format. Assumes nothing.
+use Rattle.std.specs.Prelude.{Result}
 use mathlib.Core.Path.{◌≡◌, refl, sym, ap, ◌∙◌, subst}
 use mathlib.Core.Bool.{true}
 use mathlib.Core.List.{List, ◌++◌}
@@ -14,7 +15,7 @@ use borrow.Author.Tests.{eq-eqb, le-leb}
 use Rattle.text.specs.Spans.{shown}
 use Rattle.tables.specs.Layout.{second}
 use Rattle.tables.specs.Table.{listed}
-use Rattle.tables.specs.declared.Laid as laidᵈ
+use Rattle.tables.specs.declared.Refusal as refusalᵈ
 use Rattle.tables.specs.Answers.{laid_of}
 use Rattle.tables.specs.Refusal.{refused, given, output_short, no_such_clip}
 use Rattle.tables.proofs.Every.{every_of}
@@ -94,7 +95,7 @@ module _ (text t : List ℕ) (f : Format) (n : ℕ) (h : file_holds f (cues_of t
           })
 
 -- ---- written, then read
-module _ (text t : List ℕ) (f : Format) (n : ℕ) (out₀ out : List ℕ) (r : laidᵈ.Laid) where
+module _ (text t : List ℕ) (f : Format) (n : ℕ) (out₀ out : List ℕ) (r : Result ℕ refusalᵈ.Refusal) where
   module _ (p : WrittenAs text t f n out₀ out r) (m : ℕ) (e : laid_of r ≡ given m) where
     given_too : cue_write text t f n out₀ ≡ given m
     given_too = sym p.answered ∙ e

@@ -1,11 +1,11 @@
 -- The writer's call (02, [3]): from a text and its clip table, whose starts are the clock's in turn 0. "Refusals, writer: 1; 9, the clock's rule and URI spans
 -- within the text; 11; 33, a count, URI length or place too wide for its field; 10", each at place 0. Assumes nothing.
-use Rattle.std.specs.Prelude.{Bool, ◌&&◌, List, ℕ, leb, length}
+use Rattle.std.specs.Prelude.{Bool, ◌&&◌, List, ℕ, Result, leb, length}
 use Rattle.text.specs.Nom.{Span, span}
 use Rattle.text.specs.Spans.{span_in, shown}
 use Rattle.tables.specs.Layout as layout
 use Rattle.tables.specs.Table.{every, listed, clip_word}
-use Rattle.tables.specs.declared.Laid as laidᵈ
+use Rattle.tables.specs.declared.Refusal as refusalᵈ
 use Rattle.tables.specs.Answers.{LaidAs}
 use Rattle.tables.specs.Refusal.{Answer, given, or_refuse, text_too_long, broken_table, total_too_long, output_short, too_wide}
 use Rattle.clock.specs.Clock as clock
@@ -47,5 +47,5 @@ module _ (text t : List ℕ) where
         (given (length written))))
 
     -- all that the call says: its answer, and each byte of the output after it
-    abbrev pub WrittenAs : List ℕ → List ℕ → laidᵈ.Laid → Type 0
+    abbrev pub WrittenAs : List ℕ → List ℕ → Result ℕ refusalᵈ.Refusal → Type 0
     WrittenAs out₀ out r = LaidAs (cue_write out₀) written out₀ out r

@@ -1,8 +1,8 @@
 // The cue file of the motor board (02, [3]): what it looks like and what its writer and reader answer are the rules in `specs/`, that both undo each other the
-// laws in `proofs/`. Here stand the numbers of version 1 that writer and reader share, and what the reader's answers are made of.
+// laws in `proofs/`. Here stand the numbers of version 1 that writer and reader share, and what the reader finds of a clip.
 #![tactic(auto)]
 
-use tables::{Refusal, layout};
+use tables::layout;
 use text::Span;
 
 // The widths of the fields in bytes. A clip's record:
@@ -36,9 +36,10 @@ pub const LARGEST_URI: u64 = 65_535;
 // The latest start, in ns.
 pub const LARGEST_START: u64 = 1_000_000 * layout::SECOND;
 
-// A clip's start in ns, its URI's span in the file, and how many clips the file has; or why there is none.
+// A clip's start in ns, its URI's span in the file, and how many clips the file has.
 #[derive(Clone, Copy)]
-pub enum Found {
-    Refused(Refusal),
-    Given(u64, Span, usize),
+pub struct Found {
+    pub start: u64,
+    pub uri: Span,
+    pub clips: usize,
 }

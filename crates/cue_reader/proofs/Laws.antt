@@ -1,7 +1,7 @@
 -- The reader's rules, way out by way out of the code: one URI length more, an exact fit, a start, a step of the pass. For any format. Rests on the laws of the
 -- reader's checks. Assumes nothing.
 use mathlib.Core.Path.{◌≡◌, refl, sym, ap, ◌∙◌}
-use mathlib.Core.Bool.{Bool, true, false, cond, false≢true}
+use mathlib.Core.Bool.{Bool, true, false, cond}
 use mathlib.Core.List.{List}
 use Prim.Native.Nat.{ℕ, zero, suc, ◌+◌, ◌-◌, ◌*◌, ◌≤◌, ◌<◌}
 use native.Mathlib.Numerals.{add-one}
@@ -11,7 +11,7 @@ use lib.Dec.{leb, ltb, eqb}
 use borrow.Author.Tests.{le-leb, lt-leb, eq-eqb, ne_eqb, eqb-true, eqb-false}
 use Rattle.text.specs.Nom.{span}
 use Rattle.tables.specs.Layout.{second}
-use Rattle.tables.specs.Refusal.{Refusal, refused, given}
+use Rattle.tables.specs.Refusal.{given}
 use Rattle.cue_file.specs.Format.{Format, clip_width, trailer_width}
 use Rattle.cue_file.specs.Read.{largest_start, cursor, clip, trailer_in, count_in, clip_in, start_in, lengths_in, uri_place, fits_exactly, follows, start_keeps, next}
 use Rattle.cue_file.proofs.Pass.{next_given}
@@ -92,10 +92,6 @@ module _ (f : Format) (file : List ℕ) where
       pub keeps_in_time : start_in f file k ≤ largest_start → start_keeps f file k ≡ ltb (clip_in f file k).nanoseconds second
       unfolding start_keeps
       keeps_in_time h = rw (e, le-leb (start_in f file k) largest_start h)
-
--- what was refused gives nothing
-pub refused_not : {A P : Type 0} (r : Refusal) (p : ℕ) (a : A) → refused r p ≡ given a → P
-refused_not r p a e = let x : false ≡ true = cc in absurd (false≢true x)
 
 -- ---- a step of the pass that gives a clip, with what the code has in hand
 pub next_clip : (f : Format) (file : List ℕ) (n k place start end : ℕ) → k < n → suc k * clip_width f ≤ length file → start ≡ start_in f file k

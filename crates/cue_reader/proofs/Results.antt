@@ -1,5 +1,6 @@
 -- From what `judged` gives to the calls: a refusal is that of each call, a count is the file's and bounds every place in it. Rests on the laws of fronts.
 -- Assumes nothing.
+use Rattle.std.specs.Prelude.{Result, Ok, Err}
 use mathlib.Core.Path.{◌≡◌, sym, ap, ◌∙◌}
 use mathlib.Core.List.{List}
 use Prim.Native.Nat.{ℕ, suc, ◌+◌, ◌*◌, ◌≤◌, ◌<◌}
@@ -13,8 +14,6 @@ use Rattle.tables.specs.declared.Refusal as refusalᵈ
 use Rattle.tables.proofs.Refusals.{given_refuses}
 use Rattle.cue_file.specs.Format.{Format, clip_width}
 use Rattle.cue_file.specs.Read.{found, cursor, count_in, clip_in, start_in, lengths_in, uri_place, judged, cue_read, cues}
-use Rattle.cue_reader.specs.declared.Clips as clipsᵈ
-use Rattle.cue_reader.specs.declared.Clips.TheVariants as clipsᵛ
 use Rattle.cue_reader.specs.Answers.{clips_of}
 use Rattle.cue_file.proofs.Judged.{Takes, lengths_mono, fits_exact, judged_front}
 use Rattle.cue_reader.proofs.Laws.{lengths_step}
@@ -23,11 +22,11 @@ pub record Counted (f : Format) (file : List ℕ) (n : ℕ) : Type 0 where
   pub on : Takes f file
   pub count : n ≡ count_in f file
 
-module _ (f : Format) (file : List ℕ) (a : clipsᵈ.Clips) (p : clips_of a ≡ judged f file (given (count_in f file))) where
-  pub judged_refused : {B : Type 0} (y : Answer B) (r : refusalᵈ.Refusal) → a ≡ clipsᵛ.Refused r → judged f file y ≡ refused (refusal_of r) 0
+module _ (f : Format) (file : List ℕ) (a : Result ℕ refusalᵈ.Refusal) (p : clips_of a ≡ judged f file (given (count_in f file))) where
+  pub judged_refused : {B : Type 0} (y : Answer B) (r : refusalᵈ.Refusal) → a ≡ Err r → judged f file y ≡ refused (refusal_of r) 0
   judged_refused y r e = (judged_front f file).refuses _ y (given_refuses _ y) (refusal_of r) 0 (sym p ∙ ap clips_of e)
 
-  pub judged_given : (n : ℕ) → a ≡ clipsᵛ.Given n → Counted f file n
+  pub judged_given : (n : ℕ) → a ≡ Ok n → Counted f file n
   judged_given n e =
       let g = (judged_front f file).passed _ n (sym p ∙ ap clips_of e) in
       let q : given (count_in f file) ≡ given n = g.1 in

@@ -19,28 +19,12 @@ use text::Span;
 
 pub mod all; // all clips in one pass
 
-// How many clips a file has that was judged, or why it is refused.
-#[derive(Clone, Copy)]
-pub enum Clips {
-    Refused(Refusal),
-    Given(usize),
-}
-
-// With it a byte read asks no proof that it fits.
-fn wide(byte: u8) -> u64
-    ensures { (result ≡ byte) × (result ≤ 255) }
-{
-    byte as u64
-}
-
-// The number in two bytes of the file, high byte first.
+// The number in two bytes of the file, high byte first. One function for each width, not one for both: `from_be_bytes` is one for each type.
 fn two_at(file: &[u8], at: usize) -> u64
     requires { at + 2 ≤ length file.now }
     ensures { (result ≡ value_at 2 file.now at) × (result ≤ 65535) }
 {
-    let high = wide(file[at]);
-    let low = wide(file[at + 1]);
-    high * 256 + low
+    u64::from(u16::from_be_bytes([file[at], file[at + 1]]))
 }
 
 // The number in four.
@@ -48,9 +32,8 @@ fn four_at(file: &[u8], at: usize) -> u64
     requires { at + 4 ≤ length file.now }
     ensures { (result ≡ value_at 4 file.now at) × (result ≤ 4294967295) }
 {
-    let high = two_at(file, at);
-    let low = two_at(file, at + 2);
-    high * 65_536 + low
+    let bytes = [file[at], file[at + 1], file[at + 2], file[at + 3]];
+    u64::from(u32::from_be_bytes(bytes))
 }
 
 // A clip's record stands at its number times the width of one. Its second field:
@@ -85,10 +68,8 @@ fn lengths(file: &[u8], clips: usize) -> usize
     ensures { (result ≡ rule.lengths_in version1 file.now clips) × (result ≤ clips * 65535) }
 {
     let mut sum = 0usize;
-    let mut k = 0usize;
-    while k < clips {
+    for k in 0..clips {
         sum += uri_length(file, k);
-        k += 1;
     }
     sum
 }
@@ -142,50 +123,45 @@ fn starts_keep(file: &[u8], clips: usize) -> bool
     ensures { result ≡ every (rule.start_keeps version1 file.now) clips }
 {
     let mut before = 0u64;
-    let mut k = 0usize;
-    while k < clips {
+    for k in 0..clips {
         let after = start(file, k);
         if !start_keeps(file, k, before, after) {
             return false;
         }
         before = after;
-        k += 1;
     }
     true
 }
 
 // 19, 20, 21, 22: the whole file, whatever is asked of it. A count that is given is one that two bytes hold.
-fn judged(file: &[u8]) -> Clips
+fn judged(file: &[u8]) -> Result<usize, Refusal>
     ensures result_value { clips_of result ≡ rule.judged version1 file.now (given (rule.count_in version1 file.now)) }
     ensures by_index { (n : ℕ) → clips_of result ≡ given n → n ≤ 65535 }
 {
     if file.len() < TRAILER_WIDTH {
-        return Clips::Refused(Refusal::FileTooShort);
+        return Err(Refusal::FileTooShort);
     }
     let count_at = file.len() - TRAILER_WIDTH + RECORDS + URIS;
     if two_at(file, count_at + COUNT) != VERSION_1 {
-        return Clips::Refused(Refusal::OtherVersion);
+        return Err(Refusal::OtherVersion);
     }
     let clips = two_at(file, count_at) as usize;
     if !fits_exactly(file, clips) {
-        return Clips::Refused(Refusal::NotExact);
+        return Err(Refusal::NotExact);
     }
     if !starts_keep(file, clips) {
-        return Clips::Refused(Refusal::BadStart);
+        return Err(Refusal::BadStart);
     }
-    Clips::Given(clips)
+    Ok(clips)
 }
 
 // A clip's start in ns and the span of its URI in the file: 19, 20, 21, 22, 14.
-pub fn read(file: &[u8], clip: usize) -> Found
+pub fn read(file: &[u8], clip: usize) -> Result<Found, Refusal>
     ensures { found_of result ≡ rule.cue_read version1 file.now clip }
 {
-    let clips = match judged(file) {
-        Clips::Refused(r) => return Found::Refused(r),
-        Clips::Given(n) => n,
-    };
+    let clips = judged(file)?;
     if clips <= clip {
-        return Found::Refused(Refusal::NoSuchClip);
+        return Err(Refusal::NoSuchClip);
     }
     let from = clips * CLIP_WIDTH + lengths(file, clip);
     let to = from + uri_length(file, clip);
@@ -193,5 +169,9 @@ pub fn read(file: &[u8], clip: usize) -> Found
         start: from,
         end: to,
     };
-    Found::Given(start(file, clip), uri, clips)
+    Ok(Found {
+        start: start(file, clip),
+        uri,
+        clips,
+    })
 }

@@ -1,5 +1,6 @@
 -- The writer's refusals one after the other, with what the code has in hand at each of its ways out. At rate 1 and in turn 0 the cursor
 -- refuses as the rule does. Rests on the laws of the rule's checks. Assumes nothing.
+use Rattle.std.specs.Prelude.{Result, Ok, Err}
 use Prim.Native.Nat.{ℕ, ◌≤◌, ◌<◌}
 use mathlib.Core.Path.{◌≡◌, sym, ap, ◌∙◌}
 use mathlib.Core.Bool.{true, false, and-true, and-false}
@@ -9,7 +10,6 @@ use lib.ListN.{length}
 use borrow.Author.Tests.{le-leb}
 use Rattle.tables.specs.Layout.{text_limit}
 use Rattle.tables.specs.Table.{every, clips_fit}
-use Rattle.tables.specs.declared.Laid as laidᵈ
 use Rattle.tables.specs.Answers.{refusal_of, laid_of}
 use Rattle.tables.specs.declared.Refusal as refusalᵈ
 use Rattle.tables.specs.Refusal.{Answer, refused, given, text_too_long, broken_table, output_short, too_wide}
@@ -23,8 +23,6 @@ use Rattle.clock.proofs.Calls.{InTurn, turn_front}
 use Rattle.starts.specs.Starts.{starts}
 use Rattle.starts.specs.Answers.{cursor_of, opened_of}
 use Rattle.starts.specs.declared.Starts as startsᵈ
-use Rattle.starts.specs.declared.Opened as openedᵈ
-use Rattle.starts.specs.declared.Opened.TheVariants as openedᵛ
 use Rattle.starts.proofs.Pass.{cursor_at, pass_opens}
 use Rattle.put.specs.Put.{Puts}
 use Rattle.put.proofs.Putting.{puts_as, fit_place, fit_bytes}
@@ -57,7 +55,7 @@ module _ (text t : List ℕ) (n : ℕ) (out : List ℕ) where
       unfolding list_keeps keeps_rule in_turn at_rate timed
       list_turn x = rw (le-leb (length text) text_limit short, s, and-true (clock.keeps_rule t n))
 
-      pub writer_opens : (o : openedᵈ.Opened) (r : refusalᵈ.Refusal) → opened_of o ≡ starts t n 1 0 → o ≡ openedᵛ.Refused r
+      pub writer_opens : (o : Result startsᵈ.Starts refusalᵈ.Refusal) (r : refusalᵈ.Refusal) → opened_of o ≡ starts t n 1 0 → o ≡ Err r
           → cue_write text t version1 n out ≡ refused (refusal_of r) 0
       unfolding cue_write starts
       writer_opens o r p e = list_turn _ ∙ (turn_front t n 1 0).refuses _ _ (given_refuses _ _) (refusal_of r) 0 (sym p ∙ ap opened_of e)
@@ -78,7 +76,7 @@ module _ (text t : List ℕ) (n : ℕ) (out : List ℕ) where
           writer_10 h = write_10 text t n version1 out keeps holds (omega (arith, written_length text t n s))
 
           -- all of the file has room, so that it stands at the output's front
-          pub writes : (r : laidᵈ.Laid) (after : List ℕ) (at : ℕ) → size t n ≤ length out → Puts out 0 (pass_file text t (cursor_at t n 1 0 0)) after at
+          pub writes : (r : Result ℕ refusalᵈ.Refusal) (after : List ℕ) (at : ℕ) → size t n ≤ length out → Puts out 0 (pass_file text t (cursor_at t n 1 0 0)) after at
               → laid_of r ≡ given at → WrittenAs text t version1 n out after r
           writes r after at h p e =
               let file = written text t version1 n in
@@ -89,7 +87,7 @@ module _ (text t : List ℕ) (n : ℕ) (out : List ℕ) where
               as_given _ _ _ _ (length file) after (e ∙ ap given place) all (fit_bytes q (omega arith) ∙ sets_over out file room)
 
 -- ---- what the opened cursor tells
-module _ (t : List ℕ) (n : ℕ) (o : openedᵈ.Opened) (c : startsᵈ.Starts) (p : opened_of o ≡ starts t n 1 0) (e : o ≡ openedᵛ.Given c) where
+module _ (t : List ℕ) (n : ℕ) (o : Result startsᵈ.Starts refusalᵈ.Refusal) (c : startsᵈ.Starts) (p : opened_of o ≡ starts t n 1 0) (e : o ≡ Ok c) where
   pub opened_turn : InTurn t n 1 0
   unfolding starts
   opened_turn = ((turn_front t n 1 0).passed _ (cursor_of c) (sym p ∙ ap opened_of e)).0

@@ -4,3 +4,5 @@ pub mod Weighed
 pub mod Pass
 -- the refusals, one after the other
 pub mod Answered
+-- the bytes of a number in a field
+pub mod Bytes

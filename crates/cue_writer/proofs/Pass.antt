@@ -9,7 +9,8 @@ use Rattle.tables.specs.Table.{listed}
 use Rattle.tables.proofs.Listed.{listed_length}
 use Rattle.clock.specs.Clock.{sum_lengths, moment_of, tick_of}
 use Rattle.clock.proofs.Calls.{InTurn}
-use Rattle.starts.specs.Starts.{Cursor, next}
+use Rattle.tables.specs.Refusal.{Refusal, refused, given}
+use Rattle.starts.specs.Starts.{Cursor, done, next}
 use Rattle.starts.proofs.Pass.{cursor_at, row_at, pass_steps}
 use Rattle.cue_file.specs.Format.{version1, clip_bytes, clips_bytes, file_of}
 use Rattle.cue_file.specs.Write.{cue_of, written}
@@ -25,6 +26,19 @@ module _ (words : List ℕ) (c : Cursor) (n k : ℕ) where
   pub pass_over : n ≤ k → pass_bytes words c (n - k) ≡ []
   unfolding pass_bytes
   pass_over h = let e : n - k ≡ 0 = omega arith in rw e
+
+-- where a step gives no clip, the steps left put nothing
+module _ (words : List ℕ) (c : Cursor) where
+  stuck : step_bytes words (next words c) ≡ [] → step_after c (next words c) ≡ c → (m : ℕ) → pass_bytes words c m ≡ []
+  unfolding pass_bytes
+  stuck e f zero = refl
+  stuck e f (suc m) = rw (e, f) (stuck e f m)
+
+  pub pass_done : (m : ℕ) → given done ≡ next words c → pass_bytes words c m ≡ []
+  pass_done m e = stuck (rw (← e)) (rw (← e)) m
+
+  pub pass_refused : (r : Refusal) (p m : ℕ) → refused r p ≡ next words c → pass_bytes words c m ≡ []
+  pass_refused r p m e = stuck (rw (← e)) (rw (← e)) m
 
 -- ---- at rate 1, in turn 0, a tick is a start's whole seconds
 pub tick_second : (t : List ℕ) (n k : ℕ) → tick_of (moment_of t n 0 k) 1 ≡ sum_lengths t k / second

@@ -7,8 +7,8 @@ ghost use Rattle.tables.specs.Table.{every};
 ghost use Rattle.cue_file.specs.Format.{version1};
 ghost use Rattle.cue_file.specs.Write as rule;
 
-use starts::{Opened, Starts};
-use tables::{Laid, Refusal, layout, record};
+use starts::Starts;
+use tables::{Refusal, layout, record};
 
 mod measure; // what is weighed before the first byte is put
 mod rows; // the bytes of the file
@@ -22,8 +22,7 @@ const TURN: u64 = 0;
 fn uris_in(text: &[u8], words: &[u64], clips: usize) -> bool
     ensures { result ≡ every (λ k. span_in text.now (rule.uri_of words.now k)) clips }
 {
-    let mut k = 0usize;
-    while k < clips {
+    for k in 0..clips {
         let end = record::clip_word(words, k, layout::URI_END);
         if end < record::clip_word(words, k, layout::URI_START) {
             return false;
@@ -31,34 +30,30 @@ fn uris_in(text: &[u8], words: &[u64], clips: usize) -> bool
         if (text.len() as u64) < end {
             return false;
         }
-        k += 1;
     }
     true
 }
 
 // 1; 9; 11; 33; 10; else how many bytes were written. Where it is refused, no byte changes.
-pub fn write(text: &[u8], words: &[u64], clips: usize, out: &mut [u8]) -> Laid
+pub fn write(text: &[u8], words: &[u64], clips: usize, out: &mut [u8]) -> Result<usize, Refusal>
     ensures { rule.WrittenAs text.now words.now version1 clips out.old out.new result }
 {
     if layout::TEXT_LIMIT < text.len() {
-        return Laid::Refused(Refusal::TextTooLong);
+        return Err(Refusal::TextTooLong);
     }
     if !record::clips_fit(words, clips) {
-        return Laid::Refused(Refusal::BrokenTable);
+        return Err(Refusal::BrokenTable);
     }
     if !uris_in(text, words, clips) {
-        return Laid::Refused(Refusal::BrokenTable);
+        return Err(Refusal::BrokenTable);
     }
-    let starts = match Starts::new(words, clips, RATE, TURN) {
-        Opened::Refused(r) => return Laid::Refused(r),
-        Opened::Given(starts) => starts,
-    };
+    let starts = Starts::new(words, clips, RATE, TURN)?;
     if !measure::fields_hold(words, clips) {
-        return Laid::Refused(Refusal::TooWide);
+        return Err(Refusal::TooWide);
     }
     let length = measure::size(words, clips);
     if out.len() < length {
-        return Laid::Refused(Refusal::OutputShort);
+        return Err(Refusal::OutputShort);
     }
-    Laid::Given(rows::lay(out, text, words, starts))
+    Ok(rows::lay(out, text, words, starts))
 }

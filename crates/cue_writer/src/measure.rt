@@ -24,12 +24,10 @@ pub(crate) fn fields_hold(words: &[u64], clips: usize) -> bool
     if LARGEST_COUNT < clips {
         return false;
     }
-    let mut k = 0usize;
-    while k < clips {
+    for k in 0..clips {
         if LARGEST_URI < uri_length(words, k) {
             return false;
         }
-        k += 1;
     }
     true
 }
@@ -40,10 +38,8 @@ pub(crate) fn size(words: &[u64], clips: usize) -> usize
     ensures { result ≡ inside.size words.now clips }
 {
     let mut sum = clips * CLIP_WIDTH + TRAILER_WIDTH;
-    let mut k = 0usize;
-    while k < clips {
+    for k in 0..clips {
         sum += uri_length(words, k) as usize;
-        k += 1;
     }
     sum
 }

@@ -2,43 +2,25 @@
 ghost use Rattle.std.specs.Prelude.{◌≡◌, ◌≤◌};
 ghost use Rattle.put.specs.Put.{Puts};
 ghost use Rattle.starts.specs.Answers.{cursor_of, row_of};
-ghost use Rattle.starts.specs.Starts.{next};
 ghost use Rattle.cue_file.specs.Format.{bytes_of, version1, uris, trailer_bytes};
 ghost use Rattle.cue_file.specs.Write as rule;
 ghost use Rattle.cue_writer.specs.Inside.Measure.{largest};
 ghost use Rattle.cue_writer.specs.Inside.Pass as inside;
 
 use crate::measure;
-use cue_file::{CLIP_WIDTH, VERSION_1};
-use starts::{Row, Starts, Step};
+use cue_file::{
+    CLIP_WIDTH, COUNT, NANOSECONDS, RECORDS, SECONDS, URI_LENGTH, URIS, VERSION, VERSION_1,
+};
+use starts::{Row, Starts};
 use tables::{layout, record};
 use text::Span;
 
-// The number in two bytes, high byte first.
-fn two(out: &mut [u8], at: usize, value: u64) -> usize
-    ensures { Puts out.old at (bytes_of 2 value) out.new result }
+// A number in a field of so many bytes, high byte first: the last of its eight.
+fn field<const WIDTH: usize>(out: &mut [u8], at: usize, value: u64) -> usize
+    requires { WIDTH ≤ 8 }
+    ensures { Puts out.old at (bytes_of WIDTH value) out.new result }
 {
-    let high = value / 256;
-    put::copy(out, at, &[(high % 256) as u8, (value % 256) as u8])
-}
-
-// The number in four bytes, high byte first.
-fn four(out: &mut [u8], at: usize, value: u64) -> usize
-    ensures { Puts out.old at (bytes_of 4 value) out.new result }
-{
-    let third = value / 256;
-    let second = third / 256;
-    let first = second / 256;
-    put::copy(
-        out,
-        at,
-        &[
-            (first % 256) as u8,
-            (second % 256) as u8,
-            (third % 256) as u8,
-            (value % 256) as u8,
-        ],
-    )
+    put::copy(out, at, &value.to_be_bytes()[8 - WIDTH..])
 }
 
 // A clip's record: the seconds and nanoseconds of its start, and the length of its URI. At rate 1 the tick is the second.
@@ -47,46 +29,26 @@ fn clip(out: &mut [u8], at: usize, words: &[u64], row: Row) -> usize
 {
     let nanoseconds = row.start % layout::SECOND;
     let length = measure::uri_length(words, row.clip);
-    let nanoseconds_at = four(out, at, row.tick);
-    let length_at = four(out, nanoseconds_at, nanoseconds);
-    two(out, length_at, length)
+    let nanoseconds_at = field::<SECONDS>(out, at, row.tick);
+    let length_at = field::<NANOSECONDS>(out, nanoseconds_at, nanoseconds);
+    field::<URI_LENGTH>(out, length_at, length)
 }
 
-// Where the records stand: the cursor before the next clip, and the place of its record.
-#[derive(Clone, Copy)]
-struct Pass {
-    starts: Starts,
-    at: usize,
-}
-
-// Over the words that the cursor was made with no step is refused, so that but for a clip there is nothing to put.
-fn next_clip(out: &mut [u8], s: Pass, words: &[u64]) -> Pass
-    ensures moved { cursor_of result.starts ≡ inside.step_after (cursor_of s.starts) (next words.now (cursor_of s.starts)) }
-    ensures puts { Puts out.old s.at (inside.step_bytes words.now (next words.now (cursor_of s.starts))) out.new result.at }
-{
-    let starts = s.starts;
-    let at = s.at;
-    match starts.next(words) {
-        Step::Clip(row, after) => Pass {
-            starts: after,
-            at: clip(out, at, words, row),
-        },
-        _ => s,
-    }
-}
-
-// One step for each clip.
+// One step for each clip. Over the words that the cursor was made with no step is refused, so that each gives a clip.
 fn clips(out: &mut [u8], at: usize, words: &[u64], starts: Starts) -> usize
     ensures { Puts out.old at (inside.pass_bytes words.now (cursor_of starts) starts.clips) out.new result }
 {
     let clips = starts.clips;
-    let mut s = Pass { starts, at };
-    let mut k = 0usize;
-    while k < clips {
-        s = next_clip(out, s, words);
-        k += 1;
+    let mut starts = starts;
+    let mut to = at;
+    for _k in 0..clips {
+        let Ok(Some((row, after))) = starts.next(words) else {
+            return to;
+        };
+        to = clip(out, to, words, row);
+        starts = after;
     }
-    s.at
+    to
 }
 
 // A clip's URI, as its bytes stand in the text.
@@ -107,10 +69,8 @@ fn uris(out: &mut [u8], at: usize, text: &[u8], words: &[u64], clips: usize) -> 
     ensures { Puts out.old at (uris (rule.cues_of text.now words.now clips)) out.new result }
 {
     let mut to = at;
-    let mut k = 0usize;
-    while k < clips {
+    for k in 0..clips {
         to = uri(out, to, text, words, k);
-        k += 1;
     }
     to
 }
@@ -121,10 +81,10 @@ fn trailer(out: &mut [u8], at: usize, clips: usize) -> usize
     ensures { Puts out.old at (trailer_bytes version1 clips) out.new result }
 {
     let uris = clips * CLIP_WIDTH;
-    let uris_at = four(out, at, 0);
-    let count_at = four(out, uris_at, uris as u64);
-    let version_at = two(out, count_at, clips as u64);
-    two(out, version_at, VERSION_1)
+    let uris_at = field::<RECORDS>(out, at, 0);
+    let count_at = field::<URIS>(out, uris_at, uris as u64);
+    let version_at = field::<COUNT>(out, count_at, clips as u64);
+    field::<VERSION>(out, version_at, VERSION_1)
 }
 
 // The whole file, from the front of the output on.

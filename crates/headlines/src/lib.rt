@@ -57,9 +57,11 @@ fn type_lines(out: &mut [u8], at: usize, text: &[u8], t: Option<PlaylistType>) -
 {
     match t {
         None => at,
-        Some(PlaylistType::Event) => put::copy(out, at, b"#EXT-X-PLAYLIST-TYPE:EVENT\n"),
-        Some(PlaylistType::Vod) => put::copy(out, at, b"#EXT-X-PLAYLIST-TYPE:VOD\n"),
-        Some(PlaylistType::Other(s)) => other_type(out, at, text, s),
+        Some(t) => match t {
+            PlaylistType::Event => put::copy(out, at, b"#EXT-X-PLAYLIST-TYPE:EVENT\n"),
+            PlaylistType::Vod => put::copy(out, at, b"#EXT-X-PLAYLIST-TYPE:VOD\n"),
+            PlaylistType::Other(s) => other_type(out, at, text, s),
+        },
     }
 }
 

@@ -1,10 +1,10 @@
 -- What the code's answer says, in the words of the rules. Assumes nothing.
-use Rattle.std.proofs.Math.Option.{Option, none, some}
+use Rattle.std.specs.Prelude.{Option as Perhaps}
+use Rattle.std.proofs.Math.Option.{Option}
+use Rattle.text.specs.Answers.{perhaps}
+use Rattle.assembly.specs.declared.head.Head as headᵈ
 use Rattle.assembly.specs.Assembly.{Head}
 use Rattle.assembly.specs.Answers.{head_seen}
-use Rattle.ledgerfern.specs.declared.heads.HeadRes.{HeadRes}
-use Rattle.ledgerfern.specs.declared.heads.HeadRes.TheVariants as headResᵛ
 
-abbrev pub head_res : HeadRes → Option Head
-head_res headResᵛ.NoHead = none
-head_res (headResᵛ.Is h) = some (head_seen h)
+abbrev pub head_res : Perhaps headᵈ.Head → Option Head
+head_res = perhaps head_seen

@@ -6,15 +6,8 @@ ghost use Rattle.ledgerfern.specs.Answers.{head_res};
 
 use crate::Head;
 use assembly::head;
-use assembly::head::{HeadType, Version};
 use leaves::basic_tags::PlaylistType;
 use text::Span;
-
-#[derive(Clone, Copy)]
-pub enum HeadRes {
-    NoHead,
-    Is(head::Head),
-}
 
 const OTHER_TEXT: u64 = 3;
 
@@ -56,23 +49,23 @@ fn mark_from(number: u64) -> bool
     }
 }
 
-fn version_from(present: u64, version: u64) -> Version
+fn version_from(present: u64, version: u64) -> Option<u64>
     ensures { version_of result ≡ rule.version_from present version }
 {
     match present {
-        0 => Version::Absent,
-        _ => Version::Is(version),
+        0 => None,
+        _ => Some(version),
     }
 }
 
-fn type_from(number: u64, start: u64, end: u64) -> HeadType
+fn type_from(number: u64, start: u64, end: u64) -> Option<PlaylistType>
     ensures { head_type_of result ≡ rule.type_from number start end }
 {
     match number {
-        0 => HeadType::Absent,
-        1 => HeadType::Is(PlaylistType::Event),
-        2 => HeadType::Is(PlaylistType::Vod),
-        _ => HeadType::Is(PlaylistType::Other(Span {
+        0 => None,
+        1 => Some(PlaylistType::Event),
+        2 => Some(PlaylistType::Vod),
+        _ => Some(PlaylistType::Other(Span {
             start: start as usize,
             end: end as usize,
         })),
@@ -94,12 +87,12 @@ fn head_from(h: Head) -> head::Head
     }
 }
 
-// Numbers that no head has are none: rule 9 refuses them.
-pub fn head_of(h: Head) -> HeadRes
+// Numbers that no head has are none: rule 9 refuses them. No `TryFrom`: which refusal it is depends on the text too, and is the caller's.
+pub fn head_of(h: Head) -> Option<head::Head>
     ensures { head_res result ≡ rule.head_of h }
 {
     if !is_head(h) {
-        return HeadRes::NoHead;
+        return None;
     }
-    HeadRes::Is(head_from(h))
+    Some(head_from(h))
 }

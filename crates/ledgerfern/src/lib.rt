@@ -14,14 +14,13 @@ ghost use Rattle.cue_file.specs.Read.{cue_read};
 ghost use Rattle.ledgerfern.specs.Numbers.{verdict_numbers, room_numbers, value_numbers, window_numbers, on_numbers, playing_numbers, cue_numbers, ReadAs, StartsAs, WindowsAs, CueWriteAs};
 ghost use Rattle.ledgerfern.specs.Write.{WriteAs};
 
-use crate::heads::HeadRes;
 use clock::turns;
 
 pub mod numbers; // the numbers of an answer
 pub mod heads; // a head from its numbers
 
 #[repr(C)]
-#[derive(Clone, Copy)]
+#[derive(Clone, Copy, Default)]
 pub struct Verdict {
     pub number: u64,
     pub place: u64,
@@ -30,7 +29,7 @@ pub struct Verdict {
 
 // A head's eleven numbers. A mark is 1 or 0. The type is 0 absent, 1 EVENT, 2 VOD, 3 another text, which has a span.
 #[repr(C)]
-#[derive(Clone, Copy)]
+#[derive(Clone, Copy, Default)]
 pub struct Head {
     pub version_present: u64,
     pub version: u64,
@@ -47,7 +46,7 @@ pub struct Head {
 
 // How many clips and kept unknown tags were stored, and where the reading stopped.
 #[repr(C)]
-#[derive(Clone, Copy)]
+#[derive(Clone, Copy, Default)]
 pub struct Read {
     pub number: u64,
     pub place: u64,
@@ -59,7 +58,7 @@ pub struct Read {
 
 // How many clips and kept unknown tags the reader has to store.
 #[repr(C)]
-#[derive(Clone, Copy)]
+#[derive(Clone, Copy, Default)]
 pub struct Room {
     pub number: u64,
     pub place: u64,
@@ -69,7 +68,7 @@ pub struct Room {
 
 // How many bytes were written.
 #[repr(C)]
-#[derive(Clone, Copy)]
+#[derive(Clone, Copy, Default)]
 pub struct Written {
     pub number: u64,
     pub place: u64,
@@ -78,7 +77,7 @@ pub struct Written {
 
 // A number of ns or of ticks.
 #[repr(C)]
-#[derive(Clone, Copy)]
+#[derive(Clone, Copy, Default)]
 pub struct Value {
     pub number: u64,
     pub place: u64,
@@ -87,7 +86,7 @@ pub struct Value {
 
 // A clip, in a turn.
 #[repr(C)]
-#[derive(Clone, Copy)]
+#[derive(Clone, Copy, Default)]
 pub struct On {
     pub number: u64,
     pub place: u64,
@@ -97,7 +96,7 @@ pub struct On {
 
 // A clip in a turn, how many ticks ago it started, and how many are left until the next start.
 #[repr(C)]
-#[derive(Clone, Copy)]
+#[derive(Clone, Copy, Default)]
 pub struct Playing {
     pub number: u64,
     pub place: u64,
@@ -109,7 +108,7 @@ pub struct Playing {
 
 // How many clips' starts were stored.
 #[repr(C)]
-#[derive(Clone, Copy)]
+#[derive(Clone, Copy, Default)]
 pub struct Starts {
     pub number: u64,
     pub place: u64,
@@ -118,7 +117,7 @@ pub struct Starts {
 
 // The first byte of a clip's range and the place after its last one; without a range, zeros.
 #[repr(C)]
-#[derive(Clone, Copy)]
+#[derive(Clone, Copy, Default)]
 pub struct Window {
     pub number: u64,
     pub place: u64,
@@ -129,7 +128,7 @@ pub struct Window {
 
 // How many clips' windows were stored.
 #[repr(C)]
-#[derive(Clone, Copy)]
+#[derive(Clone, Copy, Default)]
 pub struct Windows {
     pub number: u64,
     pub place: u64,
@@ -138,7 +137,7 @@ pub struct Windows {
 
 // A clip of a cue file: its start in ns, the first byte of its URI in the file and the place after its last one; and how many clips the file has.
 #[repr(C)]
-#[derive(Clone, Copy)]
+#[derive(Clone, Copy, Default)]
 pub struct Cue {
     pub number: u64,
     pub place: u64,
@@ -152,21 +151,21 @@ pub struct Cue {
 pub fn ledgerfern_verdict(text: &[u8]) -> Verdict
     ensures { result ≡ verdict_numbers (is_master_playlist text.now) }
 {
-    numbers::of_verdict(verdict::is_master_playlist(text))
+    Verdict::from(verdict::is_master_playlist(text))
 }
 
 // Reads a media playlist into the two lent tables. A refused call leaves both as they were.
 pub fn ledgerfern_read(text: &[u8], clips: &mut [u64], tags: &mut [u64]) -> Read
     ensures { ReadAs text.now clips.old tags.old clips.new tags.new result }
 {
-    numbers::of_read(media::parse_media_playlist(text, clips, tags))
+    Read::from(media::parse_media_playlist(text, clips, tags))
 }
 
 // How many records the two tables of the reader need to have room for: it refuses what the reader does, but for the tables.
 pub fn ledgerfern_room(text: &[u8]) -> Room
     ensures { result ≡ room_numbers (room_for text.now) }
 {
-    numbers::of_room(media::room(text))
+    Room::from(media::room(text))
 }
 
 // Writes a playlist of a head, clips and unknown tags into the lent output. Numbers that no head has break rule 9; a text that is too long comes first.
@@ -182,27 +181,24 @@ pub fn ledgerfern_write(
 ) -> Written
     ensures { WriteAs text.now clips.now clip_count tags.now tag_count head out.old out.new result }
 {
-    match heads::head_of(head) {
-        HeadRes::NoHead => numbers::of_no_head(text),
-        HeadRes::Is(h) => {
-            let given = writer::write_to(text, h, clips, clip_count, tags, tag_count, out);
-            numbers::of_written(given)
-        }
-    }
+    let Some(head) = heads::head_of(head) else {
+        return numbers::of_no_head(text);
+    };
+    Written::from(writer::write_to(text, head, clips, clip_count, tags, tag_count, out))
 }
 
 // All lengths together, in ns.
 pub fn ledgerfern_total(clip_count: usize, clips: &[u64]) -> Value
     ensures { result ≡ value_numbers (clock.total clips.now clip_count) }
 {
-    numbers::of_value(clock::total(clips, clip_count))
+    Value::from(clock::total(clips, clip_count))
 }
 
 // The start of a clip within its turn, in ns.
 pub fn ledgerfern_start_ns(clip_count: usize, clips: &[u64], clip: usize) -> Value
     ensures { result ≡ value_numbers (clock.start_ns clips.now clip_count clip) }
 {
-    numbers::of_value(clock::start_ns(clips, clip_count, clip))
+    Value::from(clock::start_ns(clips, clip_count, clip))
 }
 
 // The tick at which a clip starts in a turn.
@@ -215,7 +211,7 @@ pub fn ledgerfern_start_tick(
 ) -> Value
     ensures { result ≡ value_numbers (clock.start_tick clips.now clip_count rate turn clip) }
 {
-    numbers::of_value(turns::start_tick(clips, clip_count, rate, turn, clip))
+    Value::from(turns::start_tick(clips, clip_count, rate, turn, clip))
 }
 
 // A clip's ticks in a turn: the next start minus its own.
@@ -228,7 +224,7 @@ pub fn ledgerfern_clip_ticks(
 ) -> Value
     ensures { result ≡ value_numbers (clock.clip_ticks clips.now clip_count rate turn clip) }
 {
-    numbers::of_value(turns::clip_ticks(clips, clip_count, rate, turn, clip))
+    Value::from(turns::clip_ticks(clips, clip_count, rate, turn, clip))
 }
 
 // All starts of a turn into the lent table, two words a clip: in ns within the turn, and in ticks. A refused call leaves it as it was.
@@ -241,35 +237,35 @@ pub fn ledgerfern_starts(
 ) -> Starts
     ensures { StartsAs clips.now clip_count rate turn out.old out.new result }
 {
-    numbers::of_starts(starts::table::all_starts(clips, clip_count, rate, turn, out))
+    Starts::from(starts::table::all_starts(clips, clip_count, rate, turn, out))
 }
 
 // Which clip is on at a tick, and in which turn.
 pub fn ledgerfern_clip_at(clip_count: usize, clips: &[u64], rate: u64, tick: u64) -> On
     ensures { result ≡ on_numbers (playing.clip_at clips.now clip_count rate tick) }
 {
-    numbers::of_on(playing::clip_at(clips, clip_count, rate, tick))
+    On::from(playing::clip_at(clips, clip_count, rate, tick))
 }
 
 // The same, with the ticks since its start and those left until the next.
 pub fn ledgerfern_playing_at(clip_count: usize, clips: &[u64], rate: u64, tick: u64) -> Playing
     ensures { result ≡ playing_numbers (playing.playing_at clips.now clip_count rate tick) }
 {
-    numbers::of_playing(playing::playing_at(clips, clip_count, rate, tick))
+    Playing::from(playing::playing_at(clips, clip_count, rate, tick))
 }
 
 // The byte window of a clip.
 pub fn ledgerfern_window(text: &[u8], clip_count: usize, clips: &[u64], clip: usize) -> Window
     ensures { result ≡ window_numbers (window.window text.now clips.now clip_count clip) }
 {
-    numbers::of_window(window::window(text, clips, clip_count, clip))
+    Window::from(window::window(text, clips, clip_count, clip))
 }
 
 // The windows of all clips into the lent table, four words a clip: what the call for that clip gives, without the place. A refused call leaves it as it was.
 pub fn ledgerfern_windows(text: &[u8], clip_count: usize, clips: &[u64], out: &mut [u64]) -> Windows
     ensures { WindowsAs text.now clips.now clip_count out.old out.new result }
 {
-    numbers::of_windows(windows::table::all_windows(text, clips, clip_count, out))
+    Windows::from(windows::table::all_windows(text, clips, clip_count, out))
 }
 
 // The cue file of a text's clips into the lent output. A refused call leaves it as it was.
@@ -281,12 +277,12 @@ pub fn ledgerfern_cue_write(
 ) -> Written
     ensures { CueWriteAs text.now clips.now clip_count out.old out.new result }
 {
-    numbers::of_cue_written(cue_writer::write(text, clips, clip_count, out))
+    Written::from(cue_writer::write(text, clips, clip_count, out))
 }
 
 // A clip of a cue file, which is judged whole.
 pub fn ledgerfern_cue_read(file: &[u8], clip: usize) -> Cue
     ensures { result ≡ cue_numbers (cue_read version1 file.now clip) }
 {
-    numbers::of_cue(cue_reader::read(file, clip))
+    Cue::from(cue_reader::read(file, clip))
 }

@@ -8,10 +8,8 @@ ghost use Rattle.media.specs.Calls as rule;
 ghost use Rattle.media.specs.Answers.{parse_answer, room_answer};
 ghost use Rattle.media.specs.Inside.Passes.{weighed};
 
-use crate::reading::Counted;
 use assembly::head::Head;
-use tables::{Refusal, record};
-use verdict::Admission;
+use tables::{Refusal, Refused, record};
 use verdict::lines::Verdict;
 
 pub mod state; // where a reading is and what it has counted
@@ -26,71 +24,56 @@ pub struct Read {
     pub stop: usize,
 }
 
+// How much room a reading needs: so many clips and kept unknown tags there are.
 #[derive(Clone, Copy)]
-pub enum ParseAnswer {
-    Refused(Refusal, usize),
-    Given(Read),
+pub struct Room {
+    pub clips: usize,
+    pub tags: usize,
 }
 
 // Refusals 1 to 4.
-fn weigh(text: &[u8]) -> Admission
+fn weigh(text: &[u8]) -> Result<(), Refused>
     ensures { admission result ≡ weighed text.now }
 {
-    match verdict::admit(text) {
-        Admission::Refused(r, place) => return Admission::Refused(r, place),
-        Admission::Admitted => {}
-    }
+    verdict::admit(text)?;
     match verdict::verdict_of(text) {
-        Verdict::Master(hash) => Admission::Refused(Refusal::IsMaster, hash),
-        Verdict::Media => Admission::Admitted,
+        Verdict::Master(hash) => Err(Refused {
+            refusal: Refusal::IsMaster,
+            place: hash,
+        }),
+        Verdict::Media => Ok(()),
     }
 }
 
 // Refusals 1, 2, 3, 4, then 5 or 6 whichever the reading meets first, 7, 8. A refused call leaves both tables as they were.
-pub fn parse_media_playlist(text: &[u8], clips: &mut [u64], tags: &mut [u64]) -> ParseAnswer
+pub fn parse_media_playlist(
+    text: &[u8],
+    clips: &mut [u64],
+    tags: &mut [u64],
+) -> Result<Read, Refused>
     ensures { rule.ParsedAs parse_answer text.now clips.old tags.old clips.new tags.new result }
 {
-    match weigh(text) {
-        Admission::Refused(r, place) => return ParseAnswer::Refused(r, place),
-        Admission::Admitted => {}
-    }
+    weigh(text)?;
     let at = reading::first_step(text);
-    match reading::count(text, at) {
-        Counted::Refused(r, place) => ParseAnswer::Refused(r, place),
-        Counted::Read(last) => {
-            if !record::clips_fit(clips, last.clips) {
-                return ParseAnswer::Refused(Refusal::ClipTableShort, 0);
-            }
-            if !record::tags_fit(tags, last.tags) {
-                return ParseAnswer::Refused(Refusal::TagTableShort, 0);
-            }
-            reading::fill(text, at, clips, tags, last.tags);
-            ParseAnswer::Given(last)
-        }
+    let last = reading::count(text, at)?;
+    if !record::clips_fit(clips, last.clips) {
+        return Err(Refused::from(Refusal::ClipTableShort));
     }
-}
-
-// How much room a reading needs: so many clips and kept unknown tags there are.
-#[derive(Clone, Copy)]
-pub enum RoomAnswer {
-    Refused(Refusal, usize),
-    Given { clips: usize, tags: usize },
+    if !record::tags_fit(tags, last.tags) {
+        return Err(Refused::from(Refusal::TagTableShort));
+    }
+    reading::fill(text, at, clips, tags, last.tags);
+    Ok(last)
 }
 
 // The reader's first pass alone, so that a caller can lend tables of just so many records. Refusals 1, 2, 3, 4, then 5 or 6 whichever the reading meets first.
-pub fn room(text: &[u8]) -> RoomAnswer
+pub fn room(text: &[u8]) -> Result<Room, Refused>
     ensures { room_answer result ≡ rule.room_for text.now }
 {
-    match weigh(text) {
-        Admission::Refused(r, place) => return RoomAnswer::Refused(r, place),
-        Admission::Admitted => {}
-    }
-    let at = reading::first_step(text);
-    match reading::count(text, at) {
-        Counted::Refused(r, place) => RoomAnswer::Refused(r, place),
-        Counted::Read(last) => RoomAnswer::Given {
-            clips: last.clips,
-            tags: last.tags,
-        },
-    }
+    weigh(text)?;
+    let last = reading::count(text, reading::first_step(text))?;
+    Ok(Room {
+        clips: last.clips,
+        tags: last.tags,
+    })
 }

@@ -18,8 +18,8 @@ use chains::ext_map::MAP_MEMORY;
 use leaves::basic_tags::ExtTag;
 use steps::common;
 use steps::common::{Line, LineEnd};
-use tables::{Refusal, record};
-use tags::{HeadTag, Tag, TagRes};
+use tables::{Refusal, Refused, record};
+use tags::{HeadTag, Tag};
 use text::Span;
 
 // Where the first step begins, in both passes: behind `#EXTM3U` and the blanks after it.
@@ -72,8 +72,8 @@ impl Counts {
                 CountStep::Next(c)
             }
             LineEnd::Other => match steps::media_playlist_tag(text, c.at, memory) {
-                TagRes::Fail(_) => CountStep::Stop,
-                TagRes::Ok(t, after) => {
+                Err(_) => CountStep::Stop,
+                Ok((t, after)) => {
                     let next = blocks::multispace0(text, after);
                     counted_on(t, c.next(t, next))
                 }
@@ -83,13 +83,7 @@ impl Counts {
 }
 
 // What the first pass finds: a refusal at its `#`, or what there is to give.
-#[derive(Clone, Copy)]
-pub enum Counted {
-    Refused(Refusal, usize),
-    Read(Read),
-}
-
-pub(crate) fn count(text: &[u8], at: usize) -> Counted
+pub(crate) fn count(text: &[u8], at: usize) -> Result<Read, Refused>
     requires { at ≡ first_step text.now }
     ensures { counted_of result ≡ rule.first_pass step text.now }
 {
@@ -99,10 +93,13 @@ pub(crate) fn count(text: &[u8], at: usize) -> Counted
     loop {
         match c.step(text, &mut memory) {
             CountStep::Stop => {
-                return Counted::Read(c.read(head));
+                return Ok(c.read(head));
             }
-            CountStep::Refused(r) => {
-                return Counted::Refused(r, c.at);
+            CountStep::Refused(refusal) => {
+                return Err(Refused {
+                    refusal,
+                    place: c.at,
+                });
             }
             CountStep::Next(next) => {
                 c = next;
@@ -113,13 +110,6 @@ pub(crate) fn count(text: &[u8], at: usize) -> Counted
             }
         }
     }
-}
-
-// What a step of the second pass came to.
-#[derive(Clone, Copy)]
-pub enum Step {
-    Stop,
-    Next(State),
 }
 
 impl State {
@@ -158,7 +148,8 @@ impl State {
         }
     }
 
-    // One step of the second pass: a tag, and the blanks after it. What the tag adds to the tables is stored. The memory is as in the first pass.
+    // One step of the second pass: a tag, and the blanks after it; none where the reading stops. What the tag adds to the tables is stored. The memory is as in
+    // the first pass.
     fn step(
         self,
         text: &[u8],
@@ -166,7 +157,7 @@ impl State {
         tags: &mut [u64],
         kept: usize,
         memory: &mut [u64],
-    ) -> Step
+    ) -> Option<State>
         requires counting { rule.Counting self.counts }
         requires remembers_maps { RemembersMaps text.now memory.old }
         ensures step_says { rule.StepSays step result self text.now kept clips.old tags.old clips.new tags.new }
@@ -177,18 +168,18 @@ impl State {
             Line::Uri(u, after) => {
                 self.put_clip(clips, u);
                 let next = blocks::multispace0(text, after);
-                Step::Next(self.after_uri(next))
+                Some(self.after_uri(next))
             }
             Line::Extinf(e, after) => {
                 let next = blocks::multispace0(text, after);
-                Step::Next(self.after_extinf(e, next))
+                Some(self.after_extinf(e, next))
             }
             Line::Other => match steps::media_playlist_tag(text, at, memory) {
-                TagRes::Fail(_) => Step::Stop,
-                TagRes::Ok(t, after) => {
+                Err(_) => None,
+                Ok((t, after)) => {
                     self.put(clips, tags, t, kept);
                     let next = blocks::multispace0(text, after);
-                    Step::Next(self.next(t, next))
+                    Some(self.next(t, next))
                 }
             },
         }
@@ -203,14 +194,7 @@ pub(crate) fn fill(text: &[u8], at: usize, clips: &mut [u64], tags: &mut [u64], 
 {
     let mut s = State::new(at);
     let mut memory = [0; MAP_MEMORY];
-    loop {
-        match s.step(text, clips, tags, kept, &mut memory) {
-            Step::Stop => {
-                return;
-            }
-            Step::Next(next) => {
-                s = next;
-            }
-        }
+    while let Some(next) = s.step(text, clips, tags, kept, &mut memory) {
+        s = next;
     }
 }

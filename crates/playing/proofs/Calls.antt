@@ -12,9 +12,6 @@ use Rattle.tables.specs.Refusal.{Answer, refused, given, nothing_plays, tick_too
 use Rattle.tables.proofs.Refusals.{Front, front_or, front_then, front_as}
 use Rattle.clock.specs.Clock.{largest_total, largest_rate, turns, sum_lengths, moment_of, tick_of}
 use Rattle.clock.specs.Inside.Ticks.{tick_at}
-use Rattle.clock.specs.Answers.{answer_of}
-use Rattle.clock.specs.declared.Answer as answerᵈ
-use Rattle.clock.specs.declared.Answer.TheVariants as answerᵛ
 use Rattle.clock.proofs.Lengths.{sum_mono}
 use Rattle.clock.proofs.Moments.{tick_in_reach}
 use Rattle.clock.proofs.Calls.{AtRate, rate_front}
@@ -65,10 +62,10 @@ module _ (t : List ℕ) (n rate tick : ℕ) where
   pub in_play_of : Plays t n rate tick → InPlay t n rate tick
   in_play_of g = record { short = g.at_rate.table.short; rate_low = g.at_rate.rate_low; rate_high = g.at_rate.rate_high; plays = g.plays; in_time = g.in_time }
 
-  -- a result that was given is the total, and has passed
-  pub play_result : (v : ℕ) (a : answerᵈ.Answer) → answer_of a ≡ in_play t n rate tick (given (sum_lengths t n)) → a ≡ answerᵛ.Given v → Plays t n rate tick × (v ≡ sum_lengths t n)
-  play_result v a p e =
-      let g = play_front.passed _ v (sym p ∙ ap answer_of e) in
+  -- what was given is the total, and has passed
+  pub play_result : (v : ℕ) → given v ≡ in_play t n rate tick (given (sum_lengths t n)) → Plays t n rate tick × (v ≡ sum_lengths t n)
+  play_result v e =
+      let g = play_front.passed _ v (sym e) in
       let q : given (sum_lengths t n) ≡ given v = g.1 in
       (g.0, cc)
 

@@ -3,7 +3,7 @@
 use mathlib.Core.Path.{◌≡◌, sym, ap}
 use mathlib.Core.Logic.{◌↔◌}
 use Prim.Native.Nat.{ℕ, ◌+◌, ◌-◌, ◌*◌, ◌/◌, ◌%◌, ◌≤◌, ◌<◌}
-use native.Mathlib.Nat.{le-div_iff_mul-le, div-lt_iff_lt-mul, mul-add-div_right, lt_of_mul-lt-mul_right, div-add-mod', mod-lt}
+use native.Mathlib.Nat.{le-div_iff_mul-le, div-lt_iff_lt-mul, mul-add-div_right, div-add-mod', mod-lt}
 use native.Mathlib.Omega.{arith}
 use Rattle.tables.specs.Layout.{second}
 use Rattle.clock.specs.Clock.{turns, tick_of}
@@ -51,16 +51,3 @@ module _ (rate tick : ℕ) (r : 1 ≤ rate) where
       let b : last_moment rate tick < turns * whole = past_tick (turns * whole) h in
       let z : 0 < whole = omega arith in
       record { some = z; seconds = div-add-mod' (tick / rate) whole; less = mod-lt (tick / rate) z; nanos = nanos_below; all = moment_parts; below = b }
-
--- ---- one step of the long division
-module _ (turn rest d whole : ℕ) where
-  pub down_turn : (turn * whole + rest) * 1000 + d < turns * whole → turn < turns
-  down_turn h = lt_of_mul-lt-mul_right whole (omega arith)
-
-  pub down_few : rest < whole → d < 1000 → (rest * 1000 + d) / whole < 1000
-  down_few h k =
-      let p : 0 < whole = omega arith in
-      (div-lt_iff_lt-mul p).1 (omega arith)
-
-  pub down_value : (turn * 1000 + (rest * 1000 + d) / whole) * whole + (rest * 1000 + d) % whole ≡ (turn * whole + rest) * 1000 + d
-  down_value = omega (arith, div-add-mod' (rest * 1000 + d) whole)

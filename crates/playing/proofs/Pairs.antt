@@ -25,10 +25,6 @@ module _ (t : List ℕ) (n rest : ℕ) where
       last_is (λ k. leb (sum_lengths t k) rest) clip n h (le-leb (sum_lengths t clip) rest b)
       (λ j a c. lt-leb (sum_lengths t j) rest (omega (arith, sum_mono t (clip + 1) j (omega arith))))
 
-  -- behind a clip that is over by then there is another
-  pub goes_on : (clip : ℕ) → sum_lengths t (clip + 1) ≤ rest → rest < sum_lengths t n → clip + 1 < n
-  goes_on clip b l = lt_of_not-le (λ (z : n ≤ clip + 1). omega (arith, sum_mono t n (clip + 1) z))
-
   pub record Within (clip : ℕ) : Type 0 where
     pub in_list : clip < n
     pub begun : sum_lengths t clip ≤ rest

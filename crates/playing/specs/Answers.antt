@@ -1,16 +1,20 @@
 -- What each answer of the code says, in the words of the rules. Assumes nothing.
-use Rattle.tables.specs.Refusal.{Answer, refused, given}
-use Rattle.tables.specs.Answers.{refusal_of}
-use Rattle.playing.specs.declared.On as onᵈ
-use Rattle.playing.specs.declared.On.TheVariants as onᵛ
-use Rattle.playing.specs.declared.Played as playedᵈ
-use Rattle.playing.specs.declared.Played.TheVariants as playedᵛ
+use Rattle.std.specs.Prelude.{Result}
+use Rattle.tables.specs.declared.Refusal as refusalᵈ
+use Rattle.tables.specs.Refusal.{Answer}
+use Rattle.tables.specs.Answers.{answer}
+use Rattle.playing.specs.declared.Pair as pairᵈ
+use Rattle.playing.specs.declared.Playing as playingᵈ
 use Rattle.playing.specs.Playing.{Pair, pair, Playing, playing}
 
-abbrev pub on_of : onᵈ.On → Answer Pair
-on_of (onᵛ.Refused r) = refused (refusal_of r) 0
-on_of (onᵛ.Given p) = given (pair p.turn p.clip)
+abbrev pub pair_of : pairᵈ.Pair → Pair
+pair_of p = pair p.turn p.clip
 
-abbrev pub played_of : playedᵈ.Played → Answer Playing
-played_of (playedᵛ.Refused r) = refused (refusal_of r) 0
-played_of (playedᵛ.Given p) = given (playing p.turn p.clip p.since p.left)
+abbrev pub on_of : Result pairᵈ.Pair refusalᵈ.Refusal → Answer Pair
+on_of = answer pair_of
+
+abbrev pub playing_of : playingᵈ.Playing → Playing
+playing_of p = playing p.turn p.clip p.since p.left
+
+abbrev pub played_of : Result playingᵈ.Playing refusalᵈ.Refusal → Answer Playing
+played_of = answer playing_of

@@ -10,7 +10,6 @@ ghost use Rattle.playing.specs.Playing as rule;
 ghost use Rattle.playing.specs.Answers.{on_of, played_of};
 ghost use Rattle.playing.specs.Inside.Moment as inside;
 
-use clock::Answer;
 use tables::layout::SECOND;
 use tables::{Refusal, layout, record};
 
@@ -19,12 +18,6 @@ use tables::{Refusal, layout, record};
 pub struct Pair {
     pub turn: u64,
     pub clip: usize,
-}
-
-#[derive(Clone, Copy)]
-pub enum On {
-    Refused(Refusal),
-    Given(Pair),
 }
 
 // The clip that is on, how many ticks ago it started, and how many are left until the next start.
@@ -36,17 +29,25 @@ pub struct Playing {
     pub left: u64,
 }
 
-#[derive(Clone, Copy)]
-pub enum Played {
-    Refused(Refusal),
-    Given(Playing),
-}
-
 // A number of ns as whole turns and what is left.
 #[derive(Clone, Copy)]
 struct Turns {
     turn: u64,
     rest: u64,
+}
+
+impl Turns {
+    // One step of a long division by the whole, three decimal digits at a time: behind turn x whole + rest come the digits d.
+    fn down(self, d: u64, whole: u64) -> Turns
+        requires { (whole ≤ clock.largest_total) × (self.rest < whole) × (d < 1000) × ((self.turn * whole + self.rest) * 1000 + d < clock.turns * whole) }
+        ensures { (result.turn * whole + result.rest ≡ (self.turn * whole + self.rest) * 1000 + d) × (result.rest < whole) }
+    {
+        let x = self.rest * 1_000 + d;
+        Turns {
+            turn: self.turn * 1_000 + x / whole,
+            rest: x % whole,
+        }
+    }
 }
 
 // A clip, the lengths before it, and its own.
@@ -57,43 +58,19 @@ struct Found {
     length: u64,
 }
 
-// A clip in a turn, the lengths before it, and its own.
-#[derive(Clone, Copy)]
-struct Spot {
-    turn: u64,
-    clip: usize,
-    before: u64,
-    length: u64,
-}
-
 // The total, where something plays and the tick comes before the end of the last turn: 9, 11, 12, 17, 18.
-fn in_play(words: &[u64], clips: usize, rate: u64, tick: u64) -> Answer
+fn in_play(words: &[u64], clips: usize, rate: u64, tick: u64) -> Result<u64, Refusal>
     ensures { answer_of result ≡ rule.in_play words.now clips rate tick (given (clock.sum_lengths words.now clips)) }
 {
-    let all = clock::at_rate(words, clips, rate);
-    let Answer::Given(whole) = all else {
-        return all;
-    };
+    let whole = clock::at_rate(words, clips, rate)?;
     if whole == 0 {
-        return Answer::Refused(Refusal::NothingPlays);
+        return Err(Refusal::NothingPlays);
     }
     let end = clock::tick_at(clock::TURNS, whole, 0, rate);
     if end <= tick {
-        return Answer::Refused(Refusal::TickTooLate);
+        return Err(Refusal::TickTooLate);
     }
-    all
-}
-
-// One step of a long division by the whole, three decimal digits at a time: behind turn x whole + rest come the digits d.
-fn down(turn: u64, rest: u64, d: u64, whole: u64) -> Turns
-    requires { (whole ≤ clock.largest_total) × (rest < whole) × (d < 1000) × ((turn * whole + rest) * 1000 + d < clock.turns * whole) }
-    ensures { (result.turn * whole + result.rest ≡ (turn * whole + rest) * 1000 + d) × (result.rest < whole) }
-{
-    let x = rest * 1_000 + d;
-    Turns {
-        turn: turn * 1_000 + x / whole,
-        rest: x % whole,
-    }
+    Ok(whole)
 }
 
 // The last ns whose tick is not after the given one, which may be above 2^64: its seconds and the ns left over are divided one after the other.
@@ -103,9 +80,14 @@ fn reached(tick: u64, rate: u64, whole: u64) -> Turns
 {
     let seconds = tick / rate;
     let nanos = (tick % rate * SECOND + (SECOND - 1)) / rate;
-    let a = down(seconds / whole, seconds % whole, nanos / 1_000_000, whole);
-    let b = down(a.turn, a.rest, nanos / 1_000 % 1_000, whole);
-    down(b.turn, b.rest, nanos % 1_000, whole)
+    let turns = Turns {
+        turn: seconds / whole,
+        rest: seconds % whole,
+    };
+    turns
+        .down(nanos / 1_000_000, whole)
+        .down(nanos / 1_000 % 1_000, whole)
+        .down(nanos % 1_000, whole)
 }
 
 // The last clip that has started `rest` ns into a turn: the first that is not over by then, so that one of length 0 is passed over.
@@ -113,69 +95,55 @@ fn clip_within(words: &[u64], clips: usize, rest: u64) -> Found
     requires { (rest < clock.sum_lengths words.now clips) × (clock.sum_lengths words.now clips ≤ clock.largest_total) }
     ensures { inside.FoundAt words.now clips rest result.clip result.before result.length }
 {
-    let mut clip = 0usize;
     let mut before = 0u64;
-    let mut length = record::clip_word(words, 0, layout::LENGTH);
-    while length <= rest - before {
+    for clip in 0..clips {
+        let length = record::clip_word(words, clip, layout::LENGTH);
+        let left = rest - before;
+        if left < length {
+            return Found {
+                clip,
+                before,
+                length,
+            };
+        }
         before += length;
-        clip += 1;
-        length = record::clip_word(words, clip, layout::LENGTH);
     }
-    Found {
-        clip,
-        before,
-        length,
-    }
+    unreachable!()
 }
 
 // The last pair whose start tick is not after the tick, where the whole and the tick have passed `in_play`.
-fn pair_at(words: &[u64], clips: usize, rate: u64, tick: u64, whole: u64) -> Spot
+fn pair_at(words: &[u64], clips: usize, rate: u64, tick: u64, whole: u64) -> (u64, Found)
     requires { inside.InPlay words.now clips rate tick × (whole ≡ clock.sum_lengths words.now clips) }
-    ensures { inside.SpotAt words.now clips rate tick result.turn result.clip result.before result.length }
+    ensures { inside.SpotAt words.now clips rate tick result.0 result.1.clip result.1.before result.1.length }
 {
     let m = reached(tick, rate, whole);
-    let rest = m.rest;
-    let found = clip_within(words, clips, rest);
-    Spot {
-        turn: m.turn,
-        clip: found.clip,
-        before: found.before,
-        length: found.length,
-    }
+    (m.turn, clip_within(words, clips, m.rest))
 }
 
 // Which clip is on at a tick, and in which turn.
-pub fn clip_at(words: &[u64], clips: usize, rate: u64, tick: u64) -> On
+pub fn clip_at(words: &[u64], clips: usize, rate: u64, tick: u64) -> Result<Pair, Refusal>
     ensures { on_of result ≡ rule.clip_at words.now clips rate tick }
 {
-    match in_play(words, clips, rate, tick) {
-        Answer::Refused(r) => On::Refused(r),
-        Answer::Given(whole) => {
-            let s = pair_at(words, clips, rate, tick, whole);
-            On::Given(Pair {
-                turn: s.turn,
-                clip: s.clip,
-            })
-        }
-    }
+    let whole = in_play(words, clips, rate, tick)?;
+    let (turn, found) = pair_at(words, clips, rate, tick, whole);
+    Ok(Pair {
+        turn,
+        clip: found.clip,
+    })
 }
 
 // The same, with the ticks since its start and those left until the next.
-pub fn playing_at(words: &[u64], clips: usize, rate: u64, tick: u64) -> Played
+pub fn playing_at(words: &[u64], clips: usize, rate: u64, tick: u64) -> Result<Playing, Refusal>
     ensures { played_of result ≡ rule.playing_at words.now clips rate tick }
 {
-    match in_play(words, clips, rate, tick) {
-        Answer::Refused(r) => Played::Refused(r),
-        Answer::Given(whole) => {
-            let s = pair_at(words, clips, rate, tick, whole);
-            let start = clock::tick_at(s.turn, whole, s.before, rate);
-            let next = clock::tick_at(s.turn, whole, s.before + s.length, rate);
-            Played::Given(Playing {
-                turn: s.turn,
-                clip: s.clip,
-                since: tick - start,
-                left: next - tick,
-            })
-        }
-    }
+    let whole = in_play(words, clips, rate, tick)?;
+    let (turn, found) = pair_at(words, clips, rate, tick, whole);
+    let start = clock::tick_at(turn, whole, found.before, rate);
+    let next = clock::tick_at(turn, whole, found.before + found.length, rate);
+    Ok(Playing {
+        turn,
+        clip: found.clip,
+        since: tick - start,
+        left: next - tick,
+    })
 }

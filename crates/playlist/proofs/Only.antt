@@ -1,6 +1,6 @@
 -- No second result fits the writer's promise: its answer, and each byte of the output. Assumes nothing.
 use Prim.Native.Nat.{ℕ}
-use mathlib.Core.Path.{◌≡◌, refl, sym, ◌∙◌, ap}
+use mathlib.Core.Path.{◌≡◌, refl, sym, ◌∙◌}
 use mathlib.Core.List.{List}
 use Rattle.std.specs.Prelude.{Result}
 use Rattle.tables.specs.declared.Refusal as refusalᵈ

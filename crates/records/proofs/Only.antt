@@ -1,6 +1,6 @@
 -- No second clip fits `clip_at`, and no second tag `tag_at`: what each says has a way back to it. Assumes nothing.
 use Prim.Native.Nat.{ℕ}
-use mathlib.Core.Path.{◌≡◌, refl, ap}
+use mathlib.Core.Path.{◌≡◌, ap}
 use mathlib.Core.List.{List}
 use Rattle.leaves.specs.Answers.{ext_tag_of}
 use Rattle.leaves.specs.declared.basic_tags.ExtTag as extᵈ

@@ -42,7 +42,13 @@ fn offset_at(flags: u64, flag: u64, offset: u64) -> Option<u64>
 }
 
 // `present` is the flag of the range, `with_offset` that of its offset.
-fn range_at(flags: u64, present: u64, with_offset: u64, length: u64, offset: u64) -> Option<ByteRange>
+fn range_at(
+    flags: u64,
+    present: u64,
+    with_offset: u64,
+    length: u64,
+    offset: u64,
+) -> Option<ByteRange>
     ensures { opt_range_of result ≡ rule.range_at flags present with_offset length offset }
 {
     if !record::has_flag(flags, present) {

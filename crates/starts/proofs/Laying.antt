@@ -7,7 +7,8 @@ use native.Mathlib.Omega.{arith}
 use lib.ListN.{length, drop}
 use Rattle.tables.specs.Layout.{start_words, start_ns, start_tick}
 use Rattle.tables.specs.Table.{word_at, starts_fit, start_stored}
-use Rattle.tables.specs.declared.Laid as laidᵈ
+use Rattle.std.specs.Prelude.{Result}
+use Rattle.tables.specs.declared.Refusal as refusalᵈ
 use Rattle.tables.specs.Answers.{laid_of}
 use Rattle.tables.specs.Refusal.{refused, given, output_short}
 use Rattle.tables.proofs.Laying.{laid_to, record_laid, word_of}
@@ -39,7 +40,7 @@ module _ (t : List ℕ) (n rate turn : ℕ) where
 -- ---- a clip's two words
 module _ (t : List ℕ) (n rate turn : ℕ) where
   -- after a call that gives, they are what `start_ns` and `start_tick` answer of the clip
-  module _ (out₀ out : List ℕ) (r : laidᵈ.Laid) (p : StartsAs t n rate turn out₀ out r) (clips : ℕ) (e : laid_of r ≡ given clips) (k : ℕ) (h : k < n) where
+  module _ (out₀ out : List ℕ) (r : Result ℕ refusalᵈ.Refusal) (p : StartsAs t n rate turn out₀ out r) (clips : ℕ) (e : laid_of r ≡ given clips) (k : ℕ) (h : k < n) where
     given_too : all_starts t n rate turn out₀ ≡ given clips
     given_too = sym p.answered ∙ e
 

@@ -71,6 +71,13 @@ module _ (n rate turn total k before length : ℕ) where
         room = leb-true (before + length) total r.1;
       }
 
+  pub limits_past : (Limits → ⊥) → in_limits (cursor n rate turn total k before) length ≡ false
+  limits_past h = go (in_limits (cursor n rate turn total k before) length) refl
+    where
+      go : (b : Bool) → in_limits (cursor n rate turn total k before) length ≡ b → b ≡ false
+      go true e = absurd (h (limits_hold e))
+      go false e = refl
+
   -- past the first three, the room decides
   pub limits_room : rate ≤ largest_rate → turn ≤ last_turn → total ≤ largest_total → in_limits (cursor n rate turn total k before) length ≡ leb (before + length) total
   unfolding in_limits

@@ -1,8 +1,8 @@
 -- All starts of a turn into a lent table (02, [2]): two words a clip, its start in ns within the turn and its start tick.
 -- Assumes nothing.
-use Rattle.std.specs.Prelude.{List, [], ◌∷◌, ℕ}
+use Rattle.std.specs.Prelude.{List, [], ◌∷◌, ℕ, Result}
 use Rattle.tables.specs.Table.{records, starts_fit}
-use Rattle.tables.specs.declared.Laid as laidᵈ
+use Rattle.tables.specs.declared.Refusal as refusalᵈ
 use Rattle.tables.specs.Answers.{LaidAs}
 use Rattle.tables.specs.Refusal.{Answer, given, or_refuse, output_short}
 use Rattle.clock.specs.Clock.{sum_lengths, moment_of, tick_of}
@@ -24,5 +24,5 @@ all_starts t n rate turn out =
     (given n))
 
 -- all that the call says: its answer, and each word of the table after it
-abbrev pub StartsAs : List ℕ → ℕ → ℕ → ℕ → List ℕ → List ℕ → laidᵈ.Laid → Type 0
+abbrev pub StartsAs : List ℕ → ℕ → ℕ → ℕ → List ℕ → List ℕ → Result ℕ refusalᵈ.Refusal → Type 0
 StartsAs t n rate turn out₀ out r = LaidAs (all_starts t n rate turn out₀) (start_records t n rate turn n) out₀ out r

@@ -7,7 +7,6 @@ ghost use Rattle.std.specs.Prelude.{◌≡◌};
 ghost use Rattle.starts.specs.Starts as rule;
 ghost use Rattle.starts.specs.Answers.{cursor_of, opened_of, step_of};
 
-use clock::Answer;
 use tables::{Refusal, layout, record};
 
 // Where a pass stands: the next clip, and the sum of the lengths before it. The other fields stay as `new` made them.
@@ -30,68 +29,49 @@ pub struct Row {
     pub tick: u64,
 }
 
-#[derive(Clone, Copy)]
-pub enum Opened {
-    Refused(Refusal),
-    Given(Starts),
-}
-
-#[derive(Clone, Copy)]
-pub enum Step {
-    Refused(Refusal),
-    Done,
-    Clip(Row, Starts),
-}
-
 impl Starts {
     // A cursor before the first clip.
-    pub fn new(words: &[u64], clips: usize, rate: u64, turn: u64) -> Opened
+    pub fn new(words: &[u64], clips: usize, rate: u64, turn: u64) -> Result<Starts, Refusal>
         ensures { opened_of result ≡ rule.starts words.now clips rate turn }
     {
-        match clock::in_turn(words, clips, rate, turn) {
-            Answer::Refused(r) => Opened::Refused(r),
-            Answer::Given(total) => Opened::Given(Starts {
-                clips,
-                rate,
-                turn,
-                total,
-                clip: 0,
-                before: 0,
-            }),
-        }
+        let total = clock::in_turn(words, clips, rate, turn)?;
+        Ok(Starts {
+            clips,
+            rate,
+            turn,
+            total,
+            clip: 0,
+            before: 0,
+        })
     }
 
     // Whether a step over this length stays in the clock's limits. From `new` on, over the same words, it does.
     fn in_limits(self, length: u64) -> bool
         ensures { result ≡ rule.in_limits (cursor_of self) length }
     {
-        if clock::LARGEST_RATE < self.rate {
-            return false;
-        }
-        if clock::LAST_TURN < self.turn {
-            return false;
-        }
-        if clock::LARGEST_TOTAL < self.total {
-            return false;
-        }
-        if self.total < self.before {
+        if clock::LARGEST_RATE < self.rate
+            || clock::LAST_TURN < self.turn
+            || clock::LARGEST_TOTAL < self.total
+            || self.total < self.before
+        {
             return false;
         }
         length <= self.total - self.before
     }
 
     // The next clip and the cursor after it. Words that are not those of `new` are refused where they pass the total.
-    pub fn next(self, words: &[u64]) -> Step
+    // From cursor to cursor and no `Iterator`: the public form, which `docs/PROMISES.md` names, is lent the words again at each step.
+    pub fn next(self, words: &[u64]) -> Result<Option<(Row, Starts)>, Refusal>
         ensures { step_of result ≡ rule.next words.now (cursor_of self) }
     {
         let clip = self.clip;
         let before = self.before;
         if self.clips <= clip {
-            return Step::Done;
+            return Ok(None);
         }
         let length = record::clip_word(words, clip, layout::LENGTH);
         if !self.in_limits(length) {
-            return Step::Refused(Refusal::BrokenTable);
+            return Err(Refusal::BrokenTable);
         }
         let row = Row {
             clip,
@@ -99,9 +79,11 @@ impl Starts {
             length,
             tick: clock::tick_at(self.turn, self.total, before, self.rate),
         };
-        let mut after = self;
-        after.clip = clip + 1;
-        after.before = before + length;
-        Step::Clip(row, after)
+        let after = Starts {
+            clip: clip + 1,
+            before: before + length,
+            ..self
+        };
+        Ok(Some((row, after)))
     }
 }

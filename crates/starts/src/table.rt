@@ -5,8 +5,7 @@ ghost use Rattle.tables.specs.Refusal.{given, laid};
 ghost use Rattle.clock.specs.Clock as clock;
 ghost use Rattle.starts.specs.Table as rule;
 
-use clock::Answer;
-use tables::{Laid, Refusal, layout, record};
+use tables::{Refusal, layout, record};
 
 // The table is long enough, and the whole is that of the words.
 fn lay(words: &[u64], clips: usize, rate: u64, turn: u64, whole: u64, out: &mut [u64])
@@ -14,26 +13,27 @@ fn lay(words: &[u64], clips: usize, rate: u64, turn: u64, whole: u64, out: &mut 
     ensures { out.new ≡ laid (given clips) (rule.start_records words.now clips rate turn clips) out.old }
 {
     let mut before = 0u64;
-    let mut k = 0usize;
-    while k < clips {
+    for k in 0..clips {
         let tick = clock::tick_at(turn, whole, before, rate);
         record::store_start(out, k, &[before, tick]);
         before += record::clip_word(words, k, layout::LENGTH);
-        k += 1;
     }
 }
 
 // 9, 11, 12, 13; then 10, where the table has fewer than two words a clip. Where it is refused, no word changes.
-pub fn all_starts(words: &[u64], clips: usize, rate: u64, turn: u64, out: &mut [u64]) -> Laid
+pub fn all_starts(
+    words: &[u64],
+    clips: usize,
+    rate: u64,
+    turn: u64,
+    out: &mut [u64],
+) -> Result<usize, Refusal>
     ensures { rule.StartsAs words.now clips rate turn out.old out.new result }
 {
-    let whole = match clock::in_turn(words, clips, rate, turn) {
-        Answer::Refused(r) => return Laid::Refused(r),
-        Answer::Given(total) => total,
-    };
+    let whole = clock::in_turn(words, clips, rate, turn)?;
     if !record::starts_fit(out, clips) {
-        return Laid::Refused(Refusal::OutputShort);
+        return Err(Refusal::OutputShort);
     }
     lay(words, clips, rate, turn, whole, out);
-    Laid::Given(clips)
+    Ok(clips)
 }

@@ -31,5 +31,9 @@ pub fn media_playlist_tag(text: &[u8], at: usize, memory: &mut [u64]) -> IResult
     if text[at] != b'#' {
         return other::uri_line(text, at);
     }
-    head_tags::playlist_tag(text, at).or_else(|_| media_segment_tag(text, at, memory))
+    // no `or_else`: its contract does not say that a closure that is not called leaves the memory as it was
+    if let Ok(found) = head_tags::playlist_tag(text, at) {
+        return Ok(found);
+    }
+    media_segment_tag(text, at, memory)
 }

@@ -119,11 +119,11 @@ named_back refusalᵛ.TooWide = refl
 
 -- so does a call's answer, where its value's view has one; a refusal alone has place 0
 module _ {A B : Type 0} (view : A → B) (back : B → A) (h : (a : A) → back (view a) ≡ a) where
-  answer_from : Answer B → Result A refusalᵈ.Refusal
+  pub answer_from : Answer B → Result A refusalᵈ.Refusal
   answer_from (refused r p) = Err (named r)
   answer_from (given b) = Ok (back b)
 
-  answer_back : (a : Result A refusalᵈ.Refusal) → answer_from (answer view a) ≡ a
+  pub answer_back : (a : Result A refusalᵈ.Refusal) → answer_from (answer view a) ≡ a
   unfolding answer_from
   answer_back (Err r) = ap Err (named_back r)
   answer_back (Ok a) = ap Ok (h a)

@@ -9,8 +9,7 @@ use native.Mathlib.Nat.{add-zero, add-suc, lt_of_mul-lt-mul_right}
 use native.Mathlib.Numerals.{add-one}
 use native.Mathlib.Omega.{arith}
 use lib.ListN.{set, length, take, drop, get_or, get_or-append, length-append}
-use lib.Seq.{paste, sets, length-sets, sets-eq, drop-cons, get_or-append-add, get_or-set_other, length-take-le}
-use Rattle.std.proofs.lemmas.List.{take_all}
+use lib.Seq.{sets, length-sets, sets-eq, drop-cons, get_or-append-add, get_or-set_other, length-take-le}
 use Rattle.tables.specs.Table.{fits, word_at, stored}
 use Rattle.tables.proofs.Records.{fits_words, words_fit}
 
@@ -28,10 +27,6 @@ sets_append l p (x ∷ a) b =
 -- words laid from the front stand before what is left
 pub sets_over : (l ws : List ℕ) → length ws ≤ length l → sets l 0 ws ≡ ws ++ drop (length ws) l
 sets_over l ws h = let e : 0 + length ws ≡ length ws = omega arith in rw (sets-eq ws l 0 (omega arith), e)
-
--- some words in the place of as many
-pub pasted : (l : List ℕ) (at : ℕ) (ws : List ℕ) (n : ℕ) → length ws ≡ n → at + n ≤ length l → paste l at ws n ≡ sets l at ws
-pasted l at ws n e h = rw (sets-eq ws l at (omega arith), e, take_all n ws (omega arith))
 
 -- a word aside of those that were laid is as before
 sets_aside : (l : List ℕ) (p q : ℕ) (ws : List ℕ) → (p ≤ q → q < p + length ws → ⊥) → get_or (sets l p ws) q 0 ≡ get_or l q 0

@@ -108,7 +108,10 @@ fn store<const WIDTH: usize>(words: &mut [u64], index: usize, values: &[u64; WID
         return;
     }
     let start = index * WIDTH;
-    words[start..start + WIDTH].copy_from_slice(values);
+    // Word by word: as one copy of a slice, a table of starts was laid in twice the time.
+    for place in 0..WIDTH {
+        words[start + place] = values[place];
+    }
 }
 
 pub fn store_clip(words: &mut [u64], clip: usize, values: &[u64; CLIP_WORDS])

@@ -1,4 +1,5 @@
 // The byte window of a clip: which part of its resource the clip's range names (RFC 8216, 4.3.2.2). Every text, table and number is answered.
+// The text and the clip table stay two parameters, as the calls in C and the rules have them.
 #![tactic(auto)]
 
 ghost use Rattle.std.specs.Prelude.{◌≡◌};
@@ -12,22 +13,15 @@ ghost use Rattle.window.specs.Answers.{answer_of, front_of};
 use tables::{Refusal, layout, record};
 use text::Span;
 
-pub const LARGEST_END: u64 = 18_446_744_073_709_551_615;
-
-// A refusal, at place 0; none, whose start and end are 0; or the first byte and the place after the last.
+// The first byte, and the place after the last.
 #[derive(Clone, Copy)]
-pub enum Answer {
-    Refused(Refusal),
-    None,
-    Range { start: u64, end: u64 },
+pub struct Range {
+    pub start: u64,
+    pub end: u64,
 }
 
-// Whether a call over a text and its clips may go on, or why not.
-#[derive(Clone, Copy)]
-pub enum Front {
-    Refused(Refusal),
-    Passed,
-}
+// A refusal, at place 0; else a range, or none, whose start and end are 0.
+pub type Window = Result<Option<Range>, Refusal>;
 
 // Rule 9 of one clip: its flags are below their limit, and its URI lies within the text.
 pub fn clip_keeps(text: &[u8], words: &[u64], clip: usize) -> bool
@@ -46,27 +40,25 @@ fn keeps_rule(text: &[u8], words: &[u64], clips: usize) -> bool
     if !record::clips_fit(words, clips) {
         return false;
     }
-    let mut k: usize = 0;
-    while k < clips {
+    for k in 0..clips {
         if !clip_keeps(text, words, k) {
             return false;
         }
-        k += 1;
     }
     true
 }
 
 // What every call that gives windows weighs first: 1, 9.
-pub fn over_clips(text: &[u8], words: &[u64], clips: usize) -> Front
+pub fn over_clips(text: &[u8], words: &[u64], clips: usize) -> Result<(), Refusal>
     ensures { front_of result ≡ rule.over_clips text.now words.now clips (given tt) }
 {
     if layout::TEXT_LIMIT < text.len() {
-        return Front::Refused(Refusal::TextTooLong);
+        return Err(Refusal::TextTooLong);
     }
     if !keeps_rule(text, words, clips) {
-        return Front::Refused(Refusal::BrokenTable);
+        return Err(Refusal::BrokenTable);
     }
-    Front::Passed
+    Ok(())
 }
 
 // Whether two clips have the same URI, byte for byte, wherever in the text it stands.
@@ -102,42 +94,36 @@ fn follows(text: &[u8], words: &[u64], clip: usize) -> bool
     same_resource(text, words, clip - 1, clip)
 }
 
-// So many bytes from a start. The end is compared with what is left above the start, since the sum may overflow.
-fn range_from(start: u64, length: u64) -> Answer
+// So many bytes from a start. The largest end is the largest number of 64 bits.
+fn range_from(start: u64, length: u64) -> Window
     ensures { answer_of result ≡ rule.range_from (some start) length }
 {
-    if LARGEST_END - start < length {
-        return Answer::Refused(Refusal::WindowTooFar);
-    }
-    let end = start + length;
-    Answer::Range { start, end }
+    let end = start.checked_add(length).ok_or(Refusal::WindowTooFar)?;
+    Ok(Some(Range { start, end }))
 }
 
 // So many bytes behind a window: what refused the one before refuses this one too.
-fn behind(before: Answer, length: u64) -> Answer
+fn behind(before: Window, length: u64) -> Window
     ensures { answer_of result ≡ after.behind (answer_of before) length }
 {
-    match before {
-        Answer::Refused(r) => Answer::Refused(r),
-        Answer::None => Answer::Refused(Refusal::NoRangeBefore),
-        Answer::Range { start: _, end } => range_from(end, length),
-    }
+    let range = before?.ok_or(Refusal::NoRangeBefore)?;
+    range_from(range.end, length)
 }
 
 // A clip's window, by the window of the clip before it, if there is one.
-pub fn window_after(text: &[u8], words: &[u64], clip: usize, before: Answer) -> Answer
+pub fn window_after(text: &[u8], words: &[u64], clip: usize, before: Window) -> Window
     ensures { answer_of result ≡ after.window_after text.now words.now clip (answer_of before) }
 {
     let flags = record::clip_word(words, clip, layout::FLAGS);
     if !record::has_flag(flags, layout::HAS_RANGE) {
-        return Answer::None;
+        return Ok(None);
     }
     let length = record::clip_word(words, clip, layout::RANGE_LENGTH);
     if record::has_flag(flags, layout::HAS_RANGE_OFFSET) {
         return range_from(record::clip_word(words, clip, layout::RANGE_OFFSET), length);
     }
     if !follows(text, words, clip) {
-        return Answer::Refused(Refusal::NoRangeBefore);
+        return Err(Refusal::NoRangeBefore);
     }
     behind(before, length)
 }
@@ -155,39 +141,32 @@ fn goes_on(words: &[u64], clip: usize) -> bool
 fn chain_start(words: &[u64], clip: usize) -> usize
     ensures { result ≡ inside.chain_start words.now clip }
 {
-    let mut k = clip;
-    while 0 < k {
+    for k in (1..=clip).rev() {
         if !goes_on(words, k) {
             return k;
         }
-        k -= 1;
     }
     0
 }
 
 // The window of any clip: from where its chain begins, clip by clip.
-fn window_of(text: &[u8], words: &[u64], clip: usize) -> Answer
+fn window_of(text: &[u8], words: &[u64], clip: usize) -> Window
     ensures { answer_of result ≡ rule.window_of text.now words.now clip }
 {
-    let mut before = Answer::None;
-    let mut k = chain_start(words, clip);
-    while k < clip {
+    let mut before: Window = Ok(None);
+    for k in chain_start(words, clip)..clip {
         before = window_after(text, words, k, before);
-        k += 1;
     }
     window_after(text, words, clip, before)
 }
 
 // 1, 9, 14; then none, or 16, 15.
-pub fn window(text: &[u8], words: &[u64], clips: usize, clip: usize) -> Answer
+pub fn window(text: &[u8], words: &[u64], clips: usize, clip: usize) -> Window
     ensures { answer_of result ≡ rule.window text.now words.now clips clip }
 {
-    match over_clips(text, words, clips) {
-        Front::Refused(r) => return Answer::Refused(r),
-        Front::Passed => {}
-    }
+    over_clips(text, words, clips)?;
     if clips <= clip {
-        return Answer::Refused(Refusal::NoSuchClip);
+        return Err(Refusal::NoSuchClip);
     }
     window_of(text, words, clip)
 }

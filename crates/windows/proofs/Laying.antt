@@ -1,4 +1,5 @@
 -- The table of windows: each record is what the call answers of its clip. Rests on the laws of records laid one after the other. Assumes nothing.
+use Rattle.std.specs.Prelude.{Result}
 use mathlib.Core.Path.{◌≡◌, refl, sym, ◌∙◌}
 use mathlib.Core.Bool.{true, false}
 use mathlib.Core.List.{List, ◌++◌}
@@ -6,7 +7,7 @@ use Prim.Native.Nat.{ℕ, ◌+◌, ◌<◌}
 use lib.ListN.{length, drop, get_or}
 use Rattle.tables.specs.Layout.{window_words}
 use Rattle.tables.specs.Table.{word_at, windows_fit, window_stored}
-use Rattle.tables.specs.declared.Laid as laidᵈ
+use Rattle.tables.specs.declared.Refusal as refusalᵈ
 use Rattle.tables.specs.Answers.{laid_of}
 use Rattle.tables.specs.Refusal.{Answer, refused, given, output_short}
 use Rattle.tables.proofs.Laying.{laid_to, record_laid, word_of}
@@ -41,7 +42,7 @@ module _ (text t : List ℕ) where
 -- ---- a clip's four words
 module _ (text t : List ℕ) where
   -- after a call that gives, they are what `window` answers of the clip
-  module _ (n : ℕ) (out₀ out : List ℕ) (r : laidᵈ.Laid) (p : WindowsAs text t n out₀ out r) (clips : ℕ) (e : laid_of r ≡ given clips) (k : ℕ) (h : k < n) where
+  module _ (n : ℕ) (out₀ out : List ℕ) (r : Result ℕ refusalᵈ.Refusal) (p : WindowsAs text t n out₀ out r) (clips : ℕ) (e : laid_of r ≡ given clips) (k : ℕ) (h : k < n) where
     given_too : all_windows text t n out₀ ≡ given clips
     given_too = sym p.answered ∙ e
 

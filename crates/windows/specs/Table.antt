@@ -1,7 +1,7 @@
 -- The windows of all clips into a lent table (02, [1]): four words a clip, which are what the call for that clip answers. Assumes nothing.
-use Rattle.std.specs.Prelude.{List, [], ◌∷◌, ℕ}
+use Rattle.std.specs.Prelude.{List, [], ◌∷◌, ℕ, Result}
 use Rattle.tables.specs.Table.{records, windows_fit}
-use Rattle.tables.specs.declared.Laid as laidᵈ
+use Rattle.tables.specs.declared.Refusal as refusalᵈ
 use Rattle.tables.specs.Answers.{LaidAs}
 use Rattle.tables.specs.Refusal.{Answer, refused, given, number_of, or_refuse, output_short}
 use Rattle.window.specs.Window.{Window, none, range, window_of, over_clips}
@@ -28,5 +28,5 @@ all_windows text t n out =
     (given n))
 
 -- all that the call says: its answer, and each word of the table after it
-abbrev pub WindowsAs : List ℕ → List ℕ → ℕ → List ℕ → List ℕ → laidᵈ.Laid → Type 0
+abbrev pub WindowsAs : List ℕ → List ℕ → ℕ → List ℕ → List ℕ → Result ℕ refusalᵈ.Refusal → Type 0
 WindowsAs text t n out₀ out r = LaidAs (all_windows text t n out₀) (window_records text t n) out₀ out r

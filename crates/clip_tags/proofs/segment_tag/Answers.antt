@@ -1,14 +1,13 @@
 -- `segment_tag`: what `tried_tag` ensures, but for the reason (`segment_matched`). Assumes nothing.
-use Rattle.tags.proofs.Tried.{untold_held, untold_failed}
+use mathlib.Core.Path.{◌∙◌, ap}
+use Rattle.text.specs.Why.{other_text}
+use Rattle.text.specs.Nom.{fail, or_else}
+use Rattle.tags.specs.Answers.{tag_res}
+use Rattle.tags.proofs.Tried.{either_said}
 use Rattle.tags.proofs.Matched.{segment_matched}
 use Rattle.clip_tags.proofs.segment_tag.Goals as goal
 
-pub returns-in-Ok : goal.returns-in-Ok
-returns-in-Ok c kept =
-    let tried = c.tried_tag-tried.ensures kept in
-    (untold_held _ tried.0 (segment_matched _ _) c.in-Ok.is, tried.1)
-
-pub returns-in-Err : goal.returns-in-Err
-returns-in-Err c kept =
-    let tried = c.tried_tag-tried.ensures kept in
-    (untold_failed _ tried.0 (segment_matched _ _) c.in-Err.is, tried.1)
+pub returns : goal.returns
+returns c kept =
+    let tried = c.tried_tag.ensures kept in
+    (ap tag_res c.or.ensures ∙ either_said _ _ ∙ ap (λ x. or_else x (fail other_text)) tried.0 ∙ segment_matched _ _, tried.1)

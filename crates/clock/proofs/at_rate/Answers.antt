@@ -3,29 +3,26 @@ use native.Mathlib.Omega.{arith}
 use mathlib.Core.Path.{sym, ◌∙◌}
 use Rattle.tables.proofs.Refusals.{given_refuses}
 use Rattle.clock.specs.Calls.{total, at_rate}
-use Rattle.clock.proofs.Calls.{Timed, AtRate, timed_front, rate_12_low, rate_12_high, rate_front}
+use Rattle.clock.proofs.Calls.{Timed, AtRate, timed_front, rate_12, rate_front}
 use Rattle.clock.proofs.Results.{refused_result, total_result}
 use Rattle.clock.proofs.at_rate.Goals as goal
-use Rattle.clock.proofs.at_rate.Goals.{In-Given}
+use Rattle.clock.proofs.at_rate.Goals.{In_ok-whole}
 
 -- past the first refusals
-passed : (c : In-Given) → Timed c.args.words.now c.args.clips
-passed c = total_result _ _ _ _ c.total-all.ensures c.in-Given.is
+passed : (c : In_ok-whole) → Timed c.args.words.now c.args.clips
+passed c = total_result _ _ _ c.in_ok-whole.ensures
 
-pub returns-in_default : goal.returns-in_default
+pub returns-in_err-whole : goal.returns-in_err-whole
 unfolding total at_rate
-returns-in_default c = refused_result _ _ _ _ ((timed_front _ _).refuses _ _ (given_refuses _ _)) c.total-all.ensures c.in_default.is
+returns-in_err-whole c = refused_result _ _ _ _ _ c.from_residual.ensures.1 ((timed_front _ _).refuses _ _ (given_refuses _ _)) c.in_err-whole.ensures
 
-pub returns-then-rate-lt1 : goal.returns-then-rate-lt1
-returns-then-rate-lt1 c = sym (rate_12_low _ _ _ _ (passed (goal.at.returns-then-rate-lt1 c).In-Given) (omega arith))
-
-pub returns-then-rate-gt-LARGEST_RATE : goal.returns-then-rate-gt-LARGEST_RATE
-returns-then-rate-gt-LARGEST_RATE c = sym (rate_12_high _ _ _ _ (passed (goal.at.returns-then-rate-gt-LARGEST_RATE c).In-Given) (omega arith))
+pub returns-then-rate-lt-SMALLEST_RATE : goal.returns-then-rate-lt-SMALLEST_RATE
+returns-then-rate-lt-SMALLEST_RATE c = sym (rate_12 _ _ _ _ (passed (goal.at.returns-then-rate-lt-SMALLEST_RATE c).In_ok-whole) (grind (arith, c.then-rate-lt-SMALLEST_RATE.either)))
 
 pub returns : goal.returns
 unfolding total
 returns c =
     let a = c.args in
-    let g = passed (goal.at.returns c).In-Given in
+    let g = passed (goal.at.returns c).In_ok-whole in
     let h : AtRate a.words.now a.clips a.rate = record { table = g; rate_low = omega arith; rate_high = omega arith } in
-    c.total-all.ensures ∙ ((timed_front _ _).on _ g ∙ sym ((rate_front _ _ _).on _ h))
+    c.in_ok-whole.ensures ∙ ((timed_front _ _).on _ g ∙ sym ((rate_front _ _ _).on _ h))

@@ -1,4 +1,4 @@
--- `total`: every length passed so far keeps its limit, and the sum so far is the rule's, or stopped just above the largest. The measure is the clips left.
+-- `total`: every length passed so far keeps its limit, and the sum so far is the rule's, or stopped just above the largest.
 -- Each way out is a row of 01's table (`timed_9`, `timed_11`), or passes its front. Assumes nothing.
 use native.Mathlib.Omega.{arith}
 use Prim.Native.Nat.{ℕ, ◌+◌, ◌≤◌, min}
@@ -22,7 +22,7 @@ returns-then-not-clips_fit c = sym (timed_9 _ _ _ (keeps_short _ _ (sym c.clips_
 
 pub loop-k-init : goal.loop-k-init
 unfolding sum_lengths
-loop-k-init c = (sym c.clips_fit.ensures ∙ c.if-not-clips_fit.false, every_none _, omega arith, omega arith)
+loop-k-init c = (sym c.clips_fit.ensures ∙ c.if-not-clips_fit.false, every_none _, omega arith)
 
 pub returns-then-length-ge-LENGTH_LIMIT : goal.returns-then-length-ge-LENGTH_LIMIT
 unfolding total
@@ -35,19 +35,18 @@ loop-k-preserved c =
     let t = c.args.words.now in let l = c.loop-k in (
       l.invariant.0,
       length_step t l.k l.invariant.1 (omega (arith, c.clip_word-length.ensures)),
-      omega arith,
-      omega (arith, l.invariant.3, c.added-sum.ensures, c.clip_word-length.ensures, sum_step t l.k),
+      omega (arith, l.invariant.2, c.added-sum.ensures, c.clip_word-length.ensures, sum_step t l.k),
     )
 
 pub returns-then-sum-gt-LARGEST_TOTAL : goal.returns-then-sum-gt-LARGEST_TOTAL
 unfolding total
 returns-then-sum-gt-LARGEST_TOTAL c =
     let l = c.loop-k in let over = c.loop-k-test.false in
-    sym (timed_11 _ _ _ (keeps_of _ l.k _ over l.invariant.0 l.invariant.1) (omega (arith, whole _ _ _ _ over l.invariant.2 l.invariant.3)))
+    sym (timed_11 _ _ _ (keeps_of _ l.k _ over l.invariant.0 l.invariant.1) (omega (arith, whole _ _ _ _ over c.loop-k.auto.k-end l.invariant.2)))
 
 pub returns : goal.returns
 unfolding total
 returns c =
     let l = c.loop-k in let over = c.loop-k-test.false in
-    let e = whole _ _ _ _ over l.invariant.2 l.invariant.3 in
+    let e = whole _ _ _ _ over c.loop-k.auto.k-end l.invariant.2 in
     ap given (omega (arith, e)) ∙ sym ((timed_front _ _).on _ (record { keeps = keeps_of _ l.k _ over l.invariant.0 l.invariant.1; short = omega (arith, e) }))

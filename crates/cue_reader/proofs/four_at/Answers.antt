@@ -1,7 +1,8 @@
--- `four_at`: two numbers of two bytes and their weights. Rests on `four_bytes`. Assumes nothing.
-use borrow.Author.Rules.{rules}
+-- `four_at`: the four bytes and their weights. Rests on `four_bytes`. Assumes nothing.
+use Rattle.std.proofs.Common.{rules}
+use mathlib.Core.Path.{◌∙◌}
 use Rattle.cue_reader.proofs.Numbers.{four_bytes}
 use Rattle.cue_reader.proofs.four_at.Goals as goal
 
 pub returns : goal.returns
-returns c = (four_bytes _ _ _ _ c.two_at-high.ensures.0 c.two_at-low.ensures.0, search rules)
+returns c = (c.from.ensures ∙ (c.from_be_bytes.ensures ∙ four_bytes _ _), search rules)

@@ -1,9 +1,7 @@
--- `lengths`: the sum so far is the rule's, at most 65,535 a clip. The measure is the clips left. Rests on `lengths_step`,
--- `lengths_mono`. Assumes nothing.
+-- `lengths`: the sum so far is the rule's, at most 65,535 a clip. Rests on `lengths_step`. Assumes nothing.
 use native.Mathlib.Omega.{arith}
 use mathlib.Core.Path.{sym}
 use Rattle.cue_file.specs.Format.{version1}
-use Rattle.cue_file.proofs.Judged.{lengths_mono}
 use Rattle.cue_reader.proofs.Laws.{lengths_none, lengths_step}
 use Rattle.cue_reader.proofs.lengths.Goals as goal
 
@@ -15,8 +13,3 @@ loop-k-preserved c =
     let t = c.args.file.now in
     let l = c.loop-k in
     (omega arith, omega (arith, l.invariant.1, c.uri_length-sum.ensures.0, lengths_step version1 t l.k), omega (arith, l.invariant.2, c.uri_length-sum.ensures.1))
-
-pub returns : goal.returns
-returns c =
-    let a = c.args in let t = a.file.now in let k = c.loop-k.k in
-    (omega (arith, lengths_mono version1 t a.clips k (omega arith), lengths_mono version1 t k a.clips (omega arith)), omega arith)

@@ -1,4 +1,4 @@
-use Prim.Native.Nat.{◌-◌, ◌*◌, ◌≤◌}
+use Prim.Native.Nat.{◌*◌, ◌≤◌}
 use mathlib.Core.Path.{◌≡◌}
 use Rattle.cue_file.specs.Format.{version1}
 use Rattle.cue_file.specs.Read.{lengths_in}
@@ -6,6 +6,3 @@ use Rattle.cue_reader.proofs.lengths.Given as goal
 
 abbrev pub invariant-loop-k : goal.invariant-loop-k
 invariant-loop-k l = (l.k ≤ l.clips) × (l.sum ≡ lengths_in version1 l.file l.k) × (l.sum ≤ l.k * 65535)
-
-abbrev pub decreases-loop-k : goal.decreases-loop-k
-decreases-loop-k l = l.clips - l.k

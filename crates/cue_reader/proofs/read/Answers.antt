@@ -1,44 +1,34 @@
 -- `read`: the file is refused as it is judged, or the clip is (14), or given. What fits exactly bounds every sum (`records_within`, `uri_within`). Assumes nothing.
+use Rattle.std.proofs.Common.{rules}
 use native.Mathlib.Omega.{arith}
-use mathlib.Core.Path.{sym, ap}
+use mathlib.Core.Path.{sym, ap, ◌∙◌}
 use Rattle.cue_file.specs.Format.{version1}
 use Rattle.cue_file.specs.Read.{cue_read}
 use Rattle.cue_reader.specs.Answers.{clips_of}
-use Rattle.cue_reader.proofs.Results.{Counted, judged_refused, judged_given, records_within, uri_within, read_14, read_given}
+use Rattle.cue_reader.proofs.Results.{Counted, judged_refused, judged_given, records_within, read_14, read_given}
 use Rattle.cue_reader.proofs.read.Goals as goal
 use Rattle.cue_reader.proofs.read.Goals.{Else-clips-clip}
 
 -- the count in hand is that of the file, which was judged
-counted : (c : Else-clips-clip) → Counted version1 c.args.file.now c.in-Given.n
-counted c = judged_given version1 _ _ c.judged.ensures.result_value _ c.in-Given.is
+counted : (c : Else-clips-clip) → Counted version1 c.args.file.now c.in_ok-clips.clips
+counted c = judged_given version1 _ _ c.judged.ensures.result_value _ c.in_ok-clips.was
 
-pub returns-in-Refused : goal.returns-in-Refused
+pub returns-in_err-clips : goal.returns-in_err-clips
 unfolding cue_read
-returns-in-Refused c = sym (judged_refused version1 _ _ c.judged.ensures.result_value _ _ c.in-Refused.is)
+returns-in_err-clips c = search rules ∙ sym (judged_refused version1 _ _ c.judged.ensures.result_value _ _ c.in_err-clips.was)
 
 pub returns-then-clips-clip : goal.returns-then-clips-clip
 returns-then-clips-clip c =
-    let w = judged_given version1 _ _ c.judged.ensures.result_value _ c.in-Given.is in
+    let w = judged_given version1 _ _ c.judged.ensures.result_value _ c.in_ok-clips.was in
     sym (read_14 version1 _ _ w _ c.if-clips-clip.true)
-
-pub overflow_mul-from : goal.overflow_mul-from
-overflow_mul-from c = omega (arith, records_within version1 _ _ (counted (goal.at.overflow_mul-from c).Else-clips-clip))
 
 pub lengths-requires : goal.lengths-requires
 lengths-requires c =
-    let b = c.judged.ensures.by_index _ (ap clips_of c.in-Given.is) in
+    let b = c.judged.ensures.by_index _ (ap clips_of c.in_ok-clips.was) in
     (omega (arith, b), omega (arith, records_within version1 _ _ (counted (goal.at.lengths-requires c).Else-clips-clip)))
-
-pub overflow_add-from : goal.overflow_add-from
-overflow_add-from c = omega (arith, uri_within version1 _ _ (counted (goal.at.overflow_add-from c).Else-clips-clip) _ c.if-clips-clip.false, c.lengths.ensures.0)
 
 pub uri_length-requires : goal.uri_length-requires
 uri_length-requires c = omega (arith, records_within version1 _ _ (counted (goal.at.uri_length-requires c).Else-clips-clip))
-
-pub overflow_add-to : goal.overflow_add-to
-overflow_add-to c =
-    let u = uri_within version1 _ _ (counted (goal.at.overflow_add-to c).Else-clips-clip) _ c.if-clips-clip.false in
-    omega (arith, u, c.lengths.ensures.0, c.uri_length.ensures.0)
 
 pub start-requires : goal.start-requires
 start-requires c = omega (arith, records_within version1 _ _ (counted (goal.at.start-requires c).Else-clips-clip))

@@ -8,6 +8,3 @@ use Rattle.cue_reader.proofs.starts_keep.Given as goal
 
 abbrev pub invariant-loop-k : goal.invariant-loop-k
 invariant-loop-k l = (every (start_keeps version1 l.file) l.k ≡ true) × ((l.k ≡ 0 → ⊥) → l.before ≡ start_in version1 l.file (l.k - 1))
-
-abbrev pub decreases-loop-k : goal.decreases-loop-k
-decreases-loop-k l = l.clips - l.k

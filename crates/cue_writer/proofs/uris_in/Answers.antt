@@ -1,10 +1,10 @@
--- `uris_in`: the spans of the clips passed so far lie within the text; the first that does not decides. The measure is the clips left. Assumes nothing.
+-- `uris_in`: the spans of the clips passed so far lie within the text; the first that does not decides. Assumes nothing.
 use borrow.Author.Rules.{rules}
 use native.Mathlib.Omega.{arith}
 use mathlib.Core.Path.{sym}
 use Rattle.tables.specs.Layout.{uri_start, uri_end}
 use Rattle.tables.specs.Table.{clip_word}
-use Rattle.tables.proofs.Every.{every_none, every_step, every_fails, every_fewer}
+use Rattle.tables.proofs.Every.{every_none, every_step, every_fails}
 use Rattle.cue_file.proofs.Kept.{span_passes}
 use Rattle.cue_writer.proofs.Weighed.{span_in_lem, span_falls, span_long}
 use Rattle.cue_writer.proofs.uris_in.Goals as goal
@@ -40,8 +40,3 @@ loop-k-preserved c =
     let end = c.clip_word-end.ensures in
     let in-text = span_in_lem a.text.now (clip_word t k uri_start) (clip_word t k uri_end) (omega (arith, start, end)) (omega (arith, end)) in
     (search rules, every_step (span_passes a.text.now t) k c.loop-k.invariant.1 in-text)
-
-pub returns : goal.returns
-returns c =
-    let a = c.args in
-    sym (every_fewer (span_passes a.text.now a.words.now) a.clips c.loop-k.k (search rules) c.loop-k.invariant.1)

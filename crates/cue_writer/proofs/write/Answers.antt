@@ -14,7 +14,7 @@ use Rattle.cue_writer.specs.Inside.Pass.{pass_file}
 use Rattle.cue_writer.proofs.Weighed.{UrisIn, count_small}
 use Rattle.cue_writer.proofs.Answered.{writer_1, writer_9_count, writer_9_uri, writer_opens, writer_33, writer_10, writes, opened_turn, opened_first, opened_clips}
 use Rattle.cue_writer.proofs.write.Goals as goal
-use Rattle.cue_writer.proofs.write.Goals.{Else-not-fields_hold, Else-not-uris_in, Else-text-gt-TEXT_LIMIT, In-Given}
+use Rattle.cue_writer.proofs.write.Goals.{Else-not-fields_hold, Else-not-uris_in, Else-text-gt-TEXT_LIMIT, In_ok-starts}
 
 -- past 1
 short : (c : Else-text-gt-TEXT_LIMIT) → length c.args.text.now ≤ text_limit
@@ -26,9 +26,9 @@ in-text : (c : Else-not-uris_in)
 in-text c = sym c.uris_in.ensures ∙ c.if-not-uris_in.false
 
 -- past 9 and 11
-in-turn : (c : In-Given)
+in-turn : (c : In_ok-starts)
     → let a = c.args in InTurn a.words.now a.clips 1 0
-in-turn c = opened_turn _ _ _ _ c.new.ensures c.in-Given.is
+in-turn c = opened_turn _ _ _ _ c.new.ensures c.in_ok-starts.was
 
 -- past 33
 held : (c : Else-not-fields_hold)
@@ -44,30 +44,27 @@ returns-then-not-clips_fit c = as_refused _ _ _ _ _ refl (writer_9_count _ _ _ _
 pub returns-then-not-uris_in : goal.returns-then-not-uris_in
 returns-then-not-uris_in c = as_refused _ _ _ _ _ refl (writer_9_uri _ _ _ _ (search rules) (sym c.uris_in.ensures ∙ c.if-not-uris_in.true))
 
-pub returns-in-Refused : goal.returns-in-Refused
-returns-in-Refused c = as_refused _ _ _ _ _ refl (writer_opens _ _ _ _ (search rules) (in-text (goal.at.returns-in-Refused c).Else-not-uris_in) _ _ c.new.ensures c.in-Refused.is)
+pub returns-in_err-starts : goal.returns-in_err-starts
+returns-in_err-starts c = as_refused _ _ _ _ _ (search rules) (writer_opens _ _ _ _ (search rules) (in-text (goal.at.returns-in_err-starts c).Else-not-uris_in) _ _ c.new.ensures c.in_err-starts.was)
 
 pub returns-then-not-fields_hold : goal.returns-then-not-fields_hold
 returns-then-not-fields_hold c =
     let wide = sym c.fields_hold.ensures ∙ c.if-not-fields_hold.true in
-    as_refused _ _ _ _ _ refl (writer_33 _ _ _ _ (search rules) (in-text (goal.at.returns-then-not-fields_hold c).Else-not-uris_in) (in-turn (goal.at.returns-then-not-fields_hold c).In-Given) wide)
-
-pub size-length-requires : goal.size-length-requires
-size-length-requires c = held (goal.at.size-length-requires c).Else-not-fields_hold
+    as_refused _ _ _ _ _ refl (writer_33 _ _ _ _ (search rules) (in-text (goal.at.returns-then-not-fields_hold c).Else-not-uris_in) (in-turn (goal.at.returns-then-not-fields_hold c).In_ok-starts) wide)
 
 pub returns-then-out-length : goal.returns-then-out-length
 returns-then-out-length c =
     let text = in-text (goal.at.returns-then-out-length c).Else-not-uris_in in
-    as_refused _ _ _ _ _ refl (writer_10 _ _ _ _ (search rules) text (in-turn (goal.at.returns-then-out-length c).In-Given) (held (goal.at.returns-then-out-length c).Else-not-fields_hold) (omega (arith, c.size-length.ensures)))
+    as_refused _ _ _ _ _ refl (writer_10 _ _ _ _ (search rules) text (in-turn (goal.at.returns-then-out-length c).In_ok-starts) (held (goal.at.returns-then-out-length c).Else-not-fields_hold) (omega (arith, c.size-length.ensures)))
 
 pub lay-requires : goal.lay-requires
-lay-requires c = omega (arith, opened_clips _ _ _ _ c.new.ensures c.in-Given.is, count_small _ _ (held (goal.at.lay-requires c).Else-not-fields_hold))
+lay-requires c = omega (arith, opened_clips _ _ _ _ c.new.ensures c.in_ok-starts.was, count_small _ _ (held (goal.at.lay-requires c).Else-not-fields_hold))
 
 pub returns : goal.returns
 returns c =
     let a = c.args in
-    let first = opened_first _ _ _ _ c.new.ensures c.in-Given.is in
+    let first = opened_first _ _ _ _ c.new.ensures c.in_ok-starts.was in
     let file = puts_as (ap (pass_file a.text.now a.words.now) first) c.lay.ensures in
     let limit = short (goal.at.returns c).Else-text-gt-TEXT_LIMIT in
     let text = in-text (goal.at.returns c).Else-not-uris_in in
-    writes _ _ _ _ limit text (in-turn (goal.at.returns c).In-Given) (held (goal.at.returns c).Else-not-fields_hold) _ _ _ (omega (arith, c.size-length.ensures)) file refl
+    writes _ _ _ _ limit text (in-turn (goal.at.returns c).In_ok-starts) (held (goal.at.returns c).Else-not-fields_hold) _ _ _ (omega (arith, c.size-length.ensures)) file refl

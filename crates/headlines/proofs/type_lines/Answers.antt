@@ -10,11 +10,11 @@ use Rattle.headlines.proofs.type_lines.Goals as goal
 pub returns-in-None : goal.returns-in-None
 returns-in-None c = rw (c.in-None.is, no_line) puts_none
 
-pub returns-in-Some-Event : goal.returns-in-Some-Event
-returns-in-Some-Event c = rw (c.in-Some.is, c.in-Some-Event.is) (puts_as (sym (one_line (type_line_of c.args.text.now event))) c.copy.ensures)
+pub returns-in-Event : goal.returns-in-Event
+returns-in-Event c = rw (c.in-Some.is, c.in-Event.is) (puts_as (sym (one_line (type_line_of c.args.text.now event))) c.copy.ensures)
 
-pub returns-in-Some-Vod : goal.returns-in-Some-Vod
-returns-in-Some-Vod c = rw (c.in-Some.is, c.in-Some-Vod.is) (puts_as (sym (one_line (type_line_of c.args.text.now vod))) c.copy-in-Vod.ensures)
+pub returns-in-Vod : goal.returns-in-Vod
+returns-in-Vod c = rw (c.in-Some.is, c.in-Vod.is) (puts_as (sym (one_line (type_line_of c.args.text.now vod))) c.copy-in-Vod.ensures)
 
-pub returns-in-Some-Other : goal.returns-in-Some-Other
-returns-in-Some-Other c = rw (c.in-Some.is, c.in-Some-Other.is) (puts_as (sym (one_line (type_line_of c.args.text.now (other (span_of c.in-Some-Other.s))))) c.other_type.ensures)
+pub returns-in-Other : goal.returns-in-Other
+returns-in-Other c = rw (c.in-Some.is, c.in-Other.is) (puts_as (sym (one_line (type_line_of c.args.text.now (other (span_of c.in-Other.s))))) c.other_type.ensures)

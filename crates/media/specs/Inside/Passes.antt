@@ -1,28 +1,26 @@
 -- The two passes, by any rule of a step: what each comes to, and what one step of it says. Assumes nothing.
-use Rattle.std.specs.Prelude.{ℕ, ◌+◌, ◌*◌, ◌≤◌, ◌≡◌, cond, List, ltb, length, take}
+use Rattle.std.specs.Prelude.{Result, Option as Perhaps, None, Some, ℕ, ◌+◌, ◌*◌, ◌≤◌, ◌≡◌, cond, List, ltb, length, take}
 use Rattle.std.proofs.Math.Option.{Option, none, some}
 use Rattle.std.proofs.lemmas.List.Edits.{sets}
 use Rattle.text.specs.Why.{Why}
 use Rattle.text.specs.Nom.{Parser, fail, ok}
 use Rattle.lengths.specs.Duration.{Extinf}
 use Rattle.tables.specs.Layout.{tag_words}
+use Rattle.tables.specs.declared.Refused as refusedᵈ
 use Rattle.tables.specs.Refusal.{Answer, refused, given}
 use Rattle.tables.specs.Table.{clip_stored, tag_stored}
-use Rattle.tables.specs.Answers.{refusal_of}
+use Rattle.tables.specs.Answers.{refusal_of, answer_at}
 use Rattle.verdict.specs.Calls.{admitted, and_then, verdict_of}
 use Rattle.tags.specs.Tags.{timed_of, Tag, of_head, of_clip, unknown, comment, uri, left_out, Taken, took}
 use Rattle.tags.specs.Answers.{head_tag_of}
 use Rattle.assembly.specs.Assembly.{Head, begin, head_after, Counts, counts, counts_after, State, last_of, clips_of, tags_of, segment_of, counts_of}
 use Rattle.assembly.specs.Words.{tag_words_of, clips_words, tags_words}
 use Rattle.assembly.specs.Inside.Making.{Groups, making_seen, segment_words, words_after, record_words}
+use Rattle.media.specs.declared.Read as readᵈ
 use Rattle.media.specs.declared.state.Counts as countsᵈ
 use Rattle.media.specs.declared.state.State as stateᵈ
 use Rattle.media.specs.declared.reading.CountStep.{CountStep}
 use Rattle.media.specs.declared.reading.CountStep.TheVariants as countStepᵛ
-use Rattle.media.specs.declared.reading.Counted.{Counted}
-use Rattle.media.specs.declared.reading.Counted.TheVariants as countedᵛ
-use Rattle.media.specs.declared.reading.Step.{Step}
-use Rattle.media.specs.declared.reading.Step.TheVariants as stepᵛ
 use Rattle.media.specs.Calls.{steps_by, stop_by, unless_master, refused_tag, unless_met, Read, read_from}
 use Rattle.media.specs.Answers.{read_seen}
 
@@ -46,9 +44,8 @@ held_of s = held (counts_of s) (segment_words (segment_of s))
 abbrev pub held_after : Held → Tag → Held
 held_after (held c g) t = held (counts_after c t) (words_after g t)
 
-abbrev pub counted_of : Counted → Answer Read
-counted_of (countedᵛ.Refused r p) = refused (refusal_of r) p
-counted_of (countedᵛ.Read r) = given (read_seen r)
+abbrev pub counted_of : Result readᵈ.Read refusedᵈ.Refused → Answer Read
+counted_of = answer_at read_seen
 
 -- no count is above the place
 pub record Counting (c : countsᵈ.Counts) : Type 0 where
@@ -127,6 +124,6 @@ module _ (step : Parser Taken) where
     pub clips_put_lem : clips ≡ clips_put (state_seen s) t clips₀
     pub tags_put_lem : tags ≡ tags_put (state_seen s) kept t tags₀
 
-  abbrev pub StepSays : Step → stateᵈ.State → List ℕ → ℕ → List ℕ → List ℕ → List ℕ → List ℕ → Type 0
-  StepSays stepᵛ.Stop s text kept clips₀ tags₀ clips tags = (why : Why) × (step text s.counts.at ≡ fail why) × (clips ≡ clips₀) × (tags ≡ tags₀)
-  StepSays (stepᵛ.Next d) s text kept clips₀ tags₀ clips tags = (t : Tag) × Stepped text kept s d clips₀ tags₀ clips tags t
+  abbrev pub StepSays : Perhaps stateᵈ.State → stateᵈ.State → List ℕ → ℕ → List ℕ → List ℕ → List ℕ → List ℕ → Type 0
+  StepSays None s text kept clips₀ tags₀ clips tags = (why : Why) × (step text s.counts.at ≡ fail why) × (clips ≡ clips₀) × (tags ≡ tags₀)
+  StepSays (Some d) s text kept clips₀ tags₀ clips tags = (t : Tag) × Stepped text kept s d clips₀ tags₀ clips tags t

@@ -8,12 +8,7 @@ reached-m-requires c =
     let g = c.requires.0 in let w = c.requires.1 in
     (omega (arith, w, g.short), g.rate_low, g.rate_high, end_of _ _ _ _ _ g w)
 
-pub clip_within-found-requires : goal.clip_within-found-requires
-clip_within-found-requires c =
-    let g = c.requires.0 in let w = c.requires.1 in
-    (omega (arith, w, c.reached-m.ensures.1), g.short)
-
 pub returns : goal.returns
 returns c =
     let g = c.requires.0 in let w = c.requires.1 in let m = c.reached-m.ensures in
-    spot_is _ _ _ _ _ g w _ _ _ _ _ m.0 m.1 c.clip_within-found.ensures
+    spot_is _ _ _ _ _ g w _ _ _ _ _ m.0 m.1 c.clip_within.ensures

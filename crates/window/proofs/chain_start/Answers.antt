@@ -1,12 +1,9 @@
--- `chain_start`: where the chain of the clip that is asked for may begin, so may that of the clip reached. The measure is that clip. Assumes nothing.
+-- `chain_start`: where the chain of the clip that is asked for may begin, so may that of the clip reached. Assumes nothing.
 use native.Mathlib.Omega.{arith}
-use mathlib.Core.Path.{◌≡◌, refl, sym, ap, ◌∙◌}
+use mathlib.Core.Path.{◌≡◌, sym, ap, ◌∙◌}
 use Rattle.window.specs.Inside.Chain.{chain_start}
 use Rattle.window.proofs.Chain.{chain_stop, chain_back, chain_first}
 use Rattle.window.proofs.chain_start.Goals as goal
-
-pub loop-k-init : goal.loop-k-init
-loop-k-init c = refl
 
 pub returns-then-not-goes_on : goal.returns-then-not-goes_on
 returns-then-not-goes_on c =

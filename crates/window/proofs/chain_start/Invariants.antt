@@ -4,6 +4,3 @@ use Rattle.window.proofs.chain_start.Given as goal
 
 abbrev pub invariant-loop-k : goal.invariant-loop-k
 invariant-loop-k l = chain_start l.words l.clip ≡ chain_start l.words l.k
-
-abbrev pub decreases-loop-k : goal.decreases-loop-k
-decreases-loop-k l = l.k

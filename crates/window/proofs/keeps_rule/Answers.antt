@@ -1,4 +1,4 @@
--- `keeps_rule`: the count fits, and every clip so far keeps the rule. The measure is the clips left. Rests on the laws of `every`. Assumes nothing.
+-- `keeps_rule`: the count fits, and every clip so far keeps the rule. Rests on the laws of `every`. Assumes nothing.
 use mathlib.Core.Path.{sym, ◌∙◌}
 use Rattle.tables.proofs.Every.{every_none, every_step, every_fails, every_fewer}
 use Rattle.window.proofs.Laws.{keeps_short, keeps_each}

@@ -1,4 +1,3 @@
-use Prim.Native.Nat.{◌-◌}
 use mathlib.Core.Path.{◌≡◌}
 use mathlib.Core.Bool.{true}
 use Rattle.tables.specs.Table.{every, clips_fit}
@@ -7,6 +6,3 @@ use Rattle.window.proofs.keeps_rule.Given as goal
 
 abbrev pub invariant-loop-k : goal.invariant-loop-k
 invariant-loop-k l = (clips_fit l.words l.clips ≡ true) × (every (clip_keeps l.text l.words) l.k ≡ true)
-
-abbrev pub decreases-loop-k : goal.decreases-loop-k
-decreases-loop-k l = l.clips - l.k

@@ -1,8 +1,8 @@
 -- `window_of`: with the window in hand the next clip's is the rule's, from where the chain may begin (`chain_ready`) to the clip asked for
--- (`window_after_lem`). The measure is the clips left. Assumes nothing.
+-- (`window_after_lem`). Assumes nothing.
 use native.Mathlib.Omega.{arith}
 use native.Mathlib.Numerals.{add-one}
-use mathlib.Core.Path.{◌≡◌, ◌∙◌}
+use mathlib.Core.Path.{◌∙◌}
 use Rattle.window.proofs.Chain.{chain_low, chain_ready, window_after_lem}
 use Rattle.window.proofs.window_of.Goals as goal
 
@@ -17,10 +17,3 @@ loop-k-preserved c =
     let a = c.args in
     let e = c.window_after-before.ensures ∙ l.invariant.1 in
     (omega arith, rw (e, add-one l.k) (window_after_lem a.text.now a.words.now l.k))
-
-pub returns : goal.returns
-returns c =
-    let l = c.loop-k in
-    let a = c.args in
-    let i : l.k ≡ a.clip = omega (arith, l.invariant.0) in
-    c.window_after.ensures ∙ (rw i at l.invariant.1)

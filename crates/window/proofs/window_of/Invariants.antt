@@ -1,4 +1,4 @@
-use Prim.Native.Nat.{◌-◌, ◌≤◌}
+use Prim.Native.Nat.{◌≤◌}
 use mathlib.Core.Path.{◌≡◌}
 use Rattle.window.specs.Window.{window_of}
 use Rattle.window.specs.After.{window_after}
@@ -7,6 +7,3 @@ use Rattle.window.proofs.window_of.Given as goal
 
 abbrev pub invariant-loop-k : goal.invariant-loop-k
 invariant-loop-k l = (l.k ≤ l.clip) × (window_after l.text l.words l.k (answer_of l.before) ≡ window_of l.text l.words l.k)
-
-abbrev pub decreases-loop-k : goal.decreases-loop-k
-decreases-loop-k l = l.clip - l.k

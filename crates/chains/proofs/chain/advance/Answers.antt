@@ -11,14 +11,11 @@ use Rattle.chains.proofs.chain.advance.Goals.{In-Ok}
 pub loop-place-init : goal.loop-place-init
 loop-place-init c = leads_none _ _
 
-pub returns-then-place-end : goal.returns-then-place-end
-returns-then-place-end c = c.loop-place.invariant
-
 -- the pair that was read
 read : (c : In-Ok) →
     let l = c.loop-place in
     let a = c.args in
-    next_pair a.text.now l.place ≡ ok (pair_of c.in-Ok.field-0) c.in-Ok.after
+    next_pair a.text.now l.place ≡ ok (pair_of c.in-Ok.field-0-0) c.in-Ok.after
 read c = sym c.next_pair.ensures ∙ ap pair_res c.in-Ok.is
 
 pub loop-place-smaller : goal.loop-place-smaller
@@ -26,9 +23,3 @@ loop-place-smaller c = pairs_fall _ _ _ _ (read (goal.at.loop-place-smaller c).I
 
 pub loop-place-preserved : goal.loop-place-preserved
 loop-place-preserved c = leads_on _ _ _ _ c.loop-place.invariant (leads_step _ _ _ _ (read (goal.at.loop-place-preserved c).In-Ok))
-
-pub returns-in-Err : goal.returns-in-Err
-returns-in-Err c = c.loop-place.invariant
-
-pub returns : goal.returns
-returns c = c.loop-place.invariant

@@ -6,18 +6,9 @@ use Rattle.attributes.specs.Pairs.{next_pair}
 use Rattle.attributes.specs.Answers.{pair_of, pair_res, attr_of}
 use Rattle.attributes.proofs.Walk.{pairs_fall}
 use Rattle.chains.specs.Inside.Kept.{chain}
-use Rattle.chains.proofs.Tests.{chain_on, forward_none}
+use Rattle.chains.proofs.Tests.{chain_on}
 use Rattle.chains.proofs.chain.forward.Goals as goal
 use Rattle.chains.proofs.chain.forward.Goals.{In-Ok}
-
-pub returns-then-not-is_kept : goal.returns-then-not-is_kept
-returns-then-not-is_kept c = λ names kept t. t
-
-pub loop-next-init : goal.loop-next-init
-loop-next-init c = (sym c.is_kept.ensures ∙ c.if-not-is_kept.false, λ names kept t. t)
-
-pub returns-then-next-end : goal.returns-then-next-end
-returns-then-next-end c = forward_none _ _ _ c.nothing.ensures
 
 -- the pair that was read
 read : (c : In-Ok) →
@@ -34,9 +25,3 @@ loop-next-preserved c =
     let l = c.loop-next in
     let on = chain_on _ (chain (span_of l.name) (attr_of l.value) l.next _) _ _ _ l.invariant.0 (read (goal.at.loop-next-preserved c).In-Ok) in
     (refl, λ names kept t. on names kept (l.invariant.1 names kept t))
-
-pub returns-in-Err : goal.returns-in-Err
-returns-in-Err c = forward_none _ _ _ c.nothing-in-Err.ensures
-
-pub returns : goal.returns
-returns c = c.loop-next.invariant.1

@@ -4,15 +4,15 @@ use Rattle.chains.proofs.Overlaid.{list_none}
 use Rattle.chains.proofs.Renewed.{saved_true, parts_with}
 use Rattle.chains.proofs.list.begun.Goals as goal
 
-pub returns-in-Err : goal.returns-in-Err
-returns-in-Err c =
+pub returns-in_default : goal.returns-in_default
+returns-in_default c =
     λ t z.
     let tried = c.pair_at-tried.ensures.tried_pair t.fails in
-    let none = none_behind _ _ _ c.while_two.ensures (rw c.in-Err.is at tried.0) in
+    let none = none_behind _ _ _ c.while_two.ensures (rw c.in_default.is at tried.0) in
     (list_none _ _ _ _ _ none, rw c.save.ensures (saved_true _ _ _ _ c.requires _ (parts_with _ _ _ _ _ _ t tried.1)))
 
-pub returns-in-Ok : goal.returns-in-Ok
-returns-in-Ok c =
+pub returns : goal.returns
+returns c =
     λ t z.
     let tried = c.pair_at-tried.ensures.tried_pair t.fails in
     let read = pair_behind _ _ _ _ _ c.while_two.ensures (rw c.in-Ok.is at c.pair_at-tried.ensures.pair_ok) in

@@ -1,19 +1,12 @@
--- `list::hold_later`: what is left of the numbers, done from here, is the whole. Each turn passes a number. Assumes nothing.
+-- `list::hold_later`: what is left of the numbers, done from here, is the whole. Assumes nothing.
 use borrow.Author.Rules.{rules}
-use native.Mathlib.Omega.{arith}
-use Prim.Native.Nat.{◌-◌, ◌≤◌, ◌<◌, ◌/◌}
-use mathlib.Core.Path.{◌≡◌, refl, ◌∙◌, ap}
+use Prim.Native.Nat.{◌≤◌, ◌<◌, ◌/◌}
+use mathlib.Core.Path.{◌∙◌, ap}
 use Rattle.tables.proofs.Listed.{listed_left, listed_over}
 use Rattle.attributes.specs.Held.{attr_words}
 use Rattle.chains.proofs.Overlaid.{overlaid_next, overlaid_end, overlaid_length}
 use lib.ListN.{length}
 use Rattle.chains.proofs.list.hold_later.Goals as goal
-
-pub loop-n-init : goal.loop-n-init
-loop-n-init c =
-    let a = c.args in
-    let z : length a.held.now / attr_words - 0 ≡ length a.held.now / attr_words = omega arith in
-    (search rules, (refl, rw z))
 
 pub loop-n-preserved : goal.loop-n-preserved
 loop-n-preserved c =
@@ -21,16 +14,8 @@ loop-n-preserved c =
     let a = c.args in
     let o = c.hold_one.ensures in
     let all = length a.held.now / attr_words in
-    let more : l.n < all = search rules in (
-      search rules,
-      (
-        ap length o ∙ overlaid_length _ _ _ ∙ l.invariant.1.0,
-        rw o (rw (listed_left _ l.n all more, overlaid_next) at l.invariant.1.1),
-      ),
-    )
-
-pub shape_of-held : goal.shape_of-held
-shape_of-held c = c.loop-n.invariant.1.0
+    let more : l.n < all = search rules in
+    (ap length o ∙ overlaid_length _ _ _ ∙ l.invariant.0, rw o (rw (listed_left _ l.n all more, overlaid_next) at l.invariant.1))
 
 pub returns : goal.returns
 returns c =
@@ -38,4 +23,4 @@ returns c =
     let a = c.args in
     let all = length a.held.now / attr_words in
     let over : all ≤ l.n = search rules in
-    rw (listed_over _ l.n all over, overlaid_end) at l.invariant.1.1
+    rw (listed_over _ l.n all over, overlaid_end) at l.invariant.1

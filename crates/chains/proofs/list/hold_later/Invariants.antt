@@ -1,4 +1,4 @@
-use Prim.Native.Nat.{ℕ, ◌-◌, ◌≤◌, ◌/◌}
+use Prim.Native.Nat.{ℕ, ◌-◌, ◌/◌}
 use mathlib.Core.Path.{◌≡◌}
 use mathlib.Core.Option.{Option}
 use Rattle.tables.specs.Table.{listed}
@@ -12,7 +12,4 @@ abbrev pub invariant-loop-n : goal.invariant-loop-n
 invariant-loop-n l =
     let all = length l.initial.held / attr_words in
     let at : ℕ → Option QuotedOrUnquoted = λ k. later l.from (attr_at l.kept k) in
-    (l.n ≤ all) × ((length l.held ≡ length l.initial.held) × (overlaid (listed at l.n (all - l.n)) l.n l.held ≡ overlaid (listed at 0 all) 0 l.initial.held))
-
-abbrev pub decreases-loop-n : goal.decreases-loop-n
-decreases-loop-n l = length l.initial.held / attr_words - l.n
+    (length l.held ≡ length l.initial.held) × (overlaid (listed at l.n (all - l.n)) l.n l.held ≡ overlaid (listed at 0 all) 0 l.initial.held)

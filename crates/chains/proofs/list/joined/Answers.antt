@@ -1,14 +1,10 @@
 -- `list::joined`: one pair, read as the chain's is, and then the chain (`list_joined`). Assumes nothing.
 use mathlib.Core.Path.{sym, ◌∙◌, ap}
-use mathlib.Core.Bool.{false≢true}
 use Rattle.attributes.specs.Answers.{attr_of, value_of}
 use Rattle.chains.proofs.Renewed.{list_joined}
 use Rattle.chains.proofs.Overlaid.{inserted_length}
 use lib.ListN.{length}
 use Rattle.chains.proofs.list.joined.Goals as goal
-
-pub returns-in_default : goal.returns-in_default
-returns-in_default c = λ t e j at q. absurd (false≢true (rw (ap attr_of c.in_default.is) at j))
 
 pub returns : goal.returns
 returns c =

@@ -9,18 +9,12 @@ use Rattle.attributes.specs.Answers.{pair_of}
 use Rattle.attributes.proofs.Walk.{pairs_fall}
 use Rattle.chains.specs.Inside.Answers.{chain_seen}
 use Rattle.chains.proofs.Leads.{leads_none, leads_on}
-use Rattle.chains.proofs.Overlaid.{list_none, list_step, inserted_length, overlaid_length}
+use Rattle.chains.proofs.Overlaid.{list_none, list_step, inserted_length}
 use Rattle.chains.proofs.Renewed.{list_joins}
 use Rattle.chains.proofs.Tests.{pair_behind, none_behind}
 use lib.ListN.{length}
 use Rattle.chains.proofs.list.walk.Goals as goal
 use Rattle.chains.proofs.list.walk.Goals.{In-Ok}
-
-pub loop-place-init : goal.loop-place-init
-loop-place-init c = (leads_none _ _, (refl, λ t. (t, λ end h l. l)))
-
-pub shape_of-held-then-follows-place : goal.shape_of-held-then-follows-place
-shape_of-held-then-follows-place c = ap length c.hold_later.ensures ∙ overlaid_length _ _ _ ∙ c.loop-place.invariant.1.0
 
 pub returns-then-follows-place : goal.returns-then-follows-place
 returns-then-follows-place c =
@@ -34,6 +28,9 @@ returns-then-follows-place c =
     let place : c.advance-place.result ≡ l.from = eqb-true _ _ (and_right follows (eqb c.advance-place.result l.from) both) in
     let leads = leads_on _ _ _ _ l.invariant.0 c.advance-place.ensures in
     (u.1 _ _ (list_joins _ _ (chain_seen a.other) _ _ _ l.from k (rw place at leads) (e ∙ sym l.invariant.1.0) kept c.hold_later.ensures), u.0)
+
+pub loop-place-init : goal.loop-place-init
+loop-place-init c = (leads_none _ _, (refl, λ t. (t, λ end h l. l)))
 
 -- the pair that was read
 read : (c : In-Ok) →
@@ -57,14 +54,11 @@ loop-place-preserved c =
       ),
     )
 
-pub shape_of-held-in-Err : goal.shape_of-held-in-Err
-shape_of-held-in-Err c = c.loop-place.invariant.1.0
-
-pub returns-in-Err : goal.returns-in-Err
-returns-in-Err c =
+pub returns-in_default : goal.returns-in_default
+returns-in_default c =
     λ t k e.
     let l = c.loop-place in
     let u = l.invariant.1.1 t in
     let tried = c.pair_at-tried.ensures.tried_pair u.0 in
-    let none = none_behind _ l.from _ c.while_two.ensures (rw c.in-Err.is at tried.0) in
+    let none = none_behind _ l.from _ c.while_two.ensures (rw c.in_default.is at tried.0) in
     (u.1 _ _ (list_none _ _ l.from _ _ none), tried.1)

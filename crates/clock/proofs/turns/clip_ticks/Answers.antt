@@ -14,25 +14,25 @@ use Rattle.clock.proofs.turns.clip_ticks.Goals.{After-tick_reached-next}
 ticks : (c : After-tick_reached-next) → let a = c.args in
     let start = c.tick_reached-start.result in let next = c.tick_reached-next.result in
     (start ≤ next) × (next - start ≡ ticks_of a.words.now a.clips a.rate a.turn a.clip)
-ticks c = let w = clip_result _ _ _ _ _ _ _ c.clip_in_turn-all.ensures c.in-Given.is in ticks_result _ _ _ _ _ w.0 _ _ _ w.1 c.tick_reached-start.ensures c.tick_reached-next.ensures
+ticks c = let w = clip_result _ _ _ _ _ _ c.in_ok-whole.ensures in ticks_result _ _ _ _ _ w.0 _ _ _ w.1 c.tick_reached-start.ensures c.tick_reached-next.ensures
 
-pub returns-in_default : goal.returns-in_default
+pub returns-in_err-whole : goal.returns-in_err-whole
 unfolding clip_ticks
-returns-in_default c = refused_result _ _ _ _ ((clip_turn_front _ _ _ _ _).refuses _ _ (given_refuses _ _)) c.clip_in_turn-all.ensures c.in_default.is
+returns-in_err-whole c = refused_result _ _ _ _ _ c.from_residual.ensures.1 ((clip_turn_front _ _ _ _ _).refuses _ _ (given_refuses _ _)) c.in_err-whole.ensures
 
 pub tick_reached-start-requires : goal.tick_reached-start-requires
-tick_reached-start-requires c = let w = clip_result _ _ _ _ _ _ _ c.clip_in_turn-all.ensures c.in-Given.is in omega (arith, w, within_whole _ _ _ _ _ w.0 c.args.clip (omega arith))
+tick_reached-start-requires c = let w = clip_result _ _ _ _ _ _ c.in_ok-whole.ensures in omega (arith, w, within_whole _ _ _ _ _ w.0 c.args.clip (omega arith))
 
 pub overflow_add-clip : goal.overflow_add-clip
-overflow_add-clip c = omega (arith, clip_result _ _ _ _ _ _ _ c.clip_in_turn-all.ensures c.in-Given.is)
+overflow_add-clip c = omega (arith, clip_result _ _ _ _ _ _ c.in_ok-whole.ensures)
 
 pub tick_reached-next-requires : goal.tick_reached-next-requires
 tick_reached-next-requires c =
-    let w = clip_result _ _ _ _ _ _ _ c.clip_in_turn-all.ensures c.in-Given.is in
+    let w = clip_result _ _ _ _ _ _ c.in_ok-whole.ensures in
     omega (arith, w, within_whole _ _ _ _ _ w.0 (c.args.clip + 1) (omega arith))
 
-pub overflow_sub-ticks : goal.overflow_sub-ticks
-overflow_sub-ticks c = (ticks (goal.at.overflow_sub-ticks c).After-tick_reached-next).0
+pub overflow_sub-result : goal.overflow_sub-result
+overflow_sub-result c = (ticks (goal.at.overflow_sub-result c).After-tick_reached-next).0
 
 pub returns : goal.returns
-returns c = let w = clip_result _ _ _ _ _ _ _ c.clip_in_turn-all.ensures c.in-Given.is in ap given (ticks (goal.at.returns c).After-tick_reached-next).1 ∙ sym (clip_ticks_given _ _ _ _ _ w.0.on w.1)
+returns c = let w = clip_result _ _ _ _ _ _ c.in_ok-whole.ensures in ap given (ticks (goal.at.returns c).After-tick_reached-next).1 ∙ sym (clip_ticks_given _ _ _ _ _ w.0.on w.1)

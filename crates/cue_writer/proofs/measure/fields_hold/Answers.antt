@@ -1,5 +1,4 @@
--- `fields_hold`: the lengths of the clips passed so far fit their fields; the count, or the first length that does not, decides.
--- The measure is the clips left. Assumes nothing.
+-- `fields_hold`: the lengths of the clips passed so far fit their fields; the count, or the first length that does not, decides. Assumes nothing.
 use borrow.Author.Rules.{rules}
 use native.Mathlib.Omega.{arith}
 use mathlib.Core.Path.{sym}

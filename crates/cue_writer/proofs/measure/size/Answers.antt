@@ -1,5 +1,4 @@
--- `size`: the sum counts the records, the trailer and the URIs of the clips passed so far. Where the fields hold theirs it is small.
--- The measure is the clips left. Assumes nothing.
+-- `size`: the sum counts the records, the trailer and the URIs of the clips passed so far. Where the fields hold theirs it is small. Assumes nothing.
 use borrow.Author.Rules.{rules}
 use native.Mathlib.Omega.{arith}
 use Prim.Native.Nat.{◌+◌}

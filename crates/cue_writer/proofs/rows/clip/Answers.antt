@@ -8,5 +8,5 @@ use Rattle.cue_writer.proofs.rows.clip.Goals as goal
 pub returns : goal.returns
 unfolding row_bytes
 returns c =
-    let long = puts_as (ap (bytes_of 2) c.uri_length-length.ensures) c.two.ensures in
-    puts_then c.four-nanoseconds_at.ensures (puts_then c.four-length_at.ensures (puts_then long puts_none))
+    let long = puts_as (ap (bytes_of 2) c.uri_length-length.ensures) c.field.ensures in
+    puts_then c.field-nanoseconds_at.ensures (puts_then c.field-length_at.ensures (puts_then long puts_none))

@@ -1,10 +1,6 @@
 -- `trailer`: its four fields, one behind the other. A count that holds its field keeps the place of the URIs small. Assumes nothing.
-use native.Mathlib.Omega.{arith}
 use Rattle.put.proofs.Putting.{puts_none, puts_then}
 use Rattle.cue_writer.proofs.rows.trailer.Goals as goal
 
-pub overflow_mul-uris : goal.overflow_mul-uris
-overflow_mul-uris c = omega (arith, c.requires)
-
 pub returns : goal.returns
-returns c = puts_then c.four-uris_at.ensures (puts_then c.four-count_at.ensures (puts_then c.two-version_at.ensures (puts_then c.two.ensures puts_none)))
+returns c = puts_then c.field-uris_at.ensures (puts_then c.field-count_at.ensures (puts_then c.field-version_at.ensures (puts_then c.field.ensures puts_none)))

@@ -1,25 +1,18 @@
--- `uris`: the URIs from clip k on, put from here on, are the whole put. The measure is the clips left. Assumes nothing.
+-- `uris`: the URIs from clip k on, put from here on, are the whole put. Assumes nothing.
 use borrow.Author.Rules.{rules}
-use native.Mathlib.Nat.{sub-zero}
 use mathlib.Core.Path.{ap}
 use Rattle.tables.proofs.Listed.{listed_over}
-use Rattle.put.proofs.Putting.{left_all, left_as, left_on, left_none}
+use Rattle.put.proofs.Putting.{left_as, left_on, left_none}
 use Rattle.cue_file.specs.Format.{uris}
 use Rattle.cue_file.specs.Write.{cue_of}
 use Rattle.cue_file.proofs.Sizes.{uris_left}
 use Rattle.cue_writer.proofs.rows.uris.Goals as goal
-
-pub loop-k-init : goal.loop-k-init
-loop-k-init c = (search rules, left_as (rw sub-zero) (left_all _ _ _))
 
 pub loop-k-preserved : goal.loop-k-preserved
 loop-k-preserved c =
     let a = c.args in
     let left = uris_left (cue_of a.text.now a.words.now) c.loop-k.k a.clips (search rules) in
     (search rules, left_on (left_as left c.loop-k.invariant.1) c.uri-to.ensures)
-
-pub shape_of-out : goal.shape_of-out
-shape_of-out c = c.loop-k.invariant.1.long
 
 pub returns : goal.returns
 unfolding uris

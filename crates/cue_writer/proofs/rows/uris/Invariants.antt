@@ -7,6 +7,3 @@ use Rattle.cue_writer.proofs.rows.uris.Given as goal
 
 abbrev pub invariant-loop-k : goal.invariant-loop-k
 invariant-loop-k l = (l.k ≤ l.clips) × Left l.initial.out l.at (uris (cues_of l.text l.words l.clips)) l.out l.to (uris (listed (cue_of l.text l.words) l.k (l.clips - l.k)))
-
-abbrev pub decreases-loop-k : goal.decreases-loop-k
-decreases-loop-k l = l.clips - l.k

@@ -55,7 +55,7 @@ returns-in-Stop c =
 
 pub returns-in-Refused : goal.returns-in-Refused
 returns-in-Refused c =
-    let said : CountSays step (stepᵛ.Refused c.in-Refused.r) c.loop-r.c c.args.text.now = rw c.in-Refused.is at c.step.ensures.count_says in
+    let said : CountSays step (stepᵛ.Refused c.in-Refused.refusal) c.loop-r.c c.args.text.now = rw c.in-Refused.is at c.step.ensures.count_says in
     count_refuses takes_step c.loop-r.invariant.1 (record { taken = said.2 }) _ said.3
 
 pub loop-r-smaller-in-Next : goal.loop-r-smaller-in-Next

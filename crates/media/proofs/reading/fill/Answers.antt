@@ -6,20 +6,20 @@ use Rattle.chains.proofs.Nothing.{nothing_kept}
 use Rattle.tags.specs.Tags.{step}
 use Rattle.tags.proofs.Takes.{takes_step}
 use Rattle.assembly.specs.Assembly.{begin, next}
-use Rattle.media.specs.declared.reading.Step.TheVariants as stepᵛ
+use Rattle.std.specs.Prelude.{None, Some}
 use Rattle.media.specs.Inside.Passes.{held_counts, held_after, StepSays}
 use Rattle.media.proofs.Fills.{held_next}
 use Rattle.media.proofs.Passes.{TookTo, took_less, within_counts}
 use Rattle.media.proofs.Filling.{filling_starts, filling_on, filling_ends}
 use Rattle.media.proofs.reading.fill.Goals as goal
-use Rattle.media.proofs.reading.fill.Goals.{In-Next}
+use Rattle.media.proofs.reading.fill.Goals.{In-Some}
 
 -- ---- a turn: what its step says, and where that goes
-said-next : (c : In-Next)
-    → StepSays step (stepᵛ.Next c.in-Next.next) c.loop-next.s c.args.text.now c.args.kept c.loop-next.clips c.loop-next.tags c.step.new.clips c.step.new.tags
-said-next c = rw c.in-Next.is at c.step.ensures.step_says
+said-next : (c : In-Some)
+    → StepSays step (Some c.in-Some.next) c.loop-next.s c.args.text.now c.args.kept c.loop-next.clips c.loop-next.tags c.step.new.clips c.step.new.tags
+said-next c = rw c.in-Some.is at c.step.ensures.step_says
 
-took-next : (c : In-Next) → TookTo step c.args.text.now c.loop-next.s.counts.at (said-next c).0 c.in-Next.next.counts.at
+took-next : (c : In-Some) → TookTo step c.args.text.now c.loop-next.s.counts.at (said-next c).0 c.in-Some.next.counts.at
 took-next c = record { taken = (said-next c).1.takes }
 
 pub loop-next-init : goal.loop-next-init
@@ -38,28 +38,28 @@ step-requires c =
       remembers_maps = i.4;
     }
 
-pub shape_of-clips-in-Stop : goal.shape_of-clips-in-Stop
-shape_of-clips-in-Stop c = c.step.auto.clips ∙ c.loop-next.invariant.1.clips_length
+pub shape_of-clips : goal.shape_of-clips
+shape_of-clips c = c.step.auto.clips ∙ c.loop-next.invariant.1.clips_length
 
-pub shape_of-tags-in-Stop : goal.shape_of-tags-in-Stop
-shape_of-tags-in-Stop c = c.step.auto.tags ∙ c.loop-next.invariant.1.tags_length
+pub shape_of-tags : goal.shape_of-tags
+shape_of-tags c = c.step.auto.tags ∙ c.loop-next.invariant.1.tags_length
 
-pub returns-in-Stop : goal.returns-in-Stop
-returns-in-Stop c =
-    let said : StepSays step stepᵛ.Stop c.loop-next.s c.args.text.now c.args.kept c.loop-next.clips c.loop-next.tags c.step.new.clips c.step.new.tags = rw c.in-Stop.is at c.step.ensures.step_says in
+pub returns : goal.returns
+returns c =
+    let said : StepSays step None c.loop-next.s c.args.text.now c.args.kept c.loop-next.clips c.loop-next.tags c.step.new.clips c.step.new.tags = rw c.in_default.is at c.step.ensures.step_says in
     let ends = filling_ends takes_step c.loop-next.invariant.1 said.0 said.1 in
     record { clips_filled = said.2 ∙ ends.clips_filled; tags_filled = said.3 ∙ ends.tags_filled }
 
 pub loop-next-smaller : goal.loop-next-smaller
-loop-next-smaller c = took_less takes_step (took-next (goal.at.loop-next-smaller c).In-Next)
+loop-next-smaller c = took_less takes_step (took-next (goal.at.loop-next-smaller c).In-Some)
 
 pub loop-next-preserved : goal.loop-next-preserved
 loop-next-preserved c =
     let i = c.loop-next.invariant in
-    let t = (said-next (goal.at.loop-next-preserved c).In-Next).0 in
-    let said = (said-next (goal.at.loop-next-preserved c).In-Next).1 in (
+    let t = (said-next (goal.at.loop-next-preserved c).In-Some).0 in
+    let said = (said-next (goal.at.loop-next-preserved c).In-Some).1 in (
       next i.0 t,
-      filling_on takes_step i.1 (took-next (goal.at.loop-next-preserved c).In-Next) (rw i.2 at said.clips_put_lem) (rw i.2 at said.tags_put_lem),
+      filling_on takes_step i.1 (took-next (goal.at.loop-next-preserved c).In-Some) (rw i.2 at said.clips_put_lem) (rw i.2 at said.tags_put_lem),
       said.goes_on ∙ ap (λ x. held_after x t) i.2 ∙ held_next i.0 t,
       c.step.auto.memory ∙ i.3,
       c.step.ensures.remembers_maps_2,

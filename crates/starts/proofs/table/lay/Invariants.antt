@@ -1,4 +1,3 @@
-use Prim.Native.Nat.{◌-◌, ◌≤◌}
 use mathlib.Core.Path.{◌≡◌}
 use lib.ListN.{length}
 use Rattle.tables.proofs.Laying.{laid_to}
@@ -7,7 +6,4 @@ use Rattle.starts.specs.Table.{start_record}
 use Rattle.starts.proofs.table.lay.Given as goal
 
 abbrev pub invariant-loop-k : goal.invariant-loop-k
-invariant-loop-k l = (l.k ≤ l.clips) × (length l.out ≡ length l.initial.out) × (l.before ≡ sum_lengths l.words l.k) × (l.out ≡ laid_to (start_record l.words l.clips l.rate l.turn) l.k l.initial.out)
-
-abbrev pub decreases-loop-k : goal.decreases-loop-k
-decreases-loop-k l = l.clips - l.k
+invariant-loop-k l = (length l.out ≡ length l.initial.out) × (l.before ≡ sum_lengths l.words l.k) × (l.out ≡ laid_to (start_record l.words l.clips l.rate l.turn) l.k l.initial.out)

@@ -27,11 +27,11 @@ there c = extinf_there _ _ (sym c.kind_at.ensures ∙ ap kind_of c.in-Extinf.is)
 pub overflow_add-at : goal.overflow_add-at
 overflow_add-at c = omega (arith, tagged_below _ _ _ (2 ^ 64 - 1) (omega arith) (omega arith) (there (goal.at.overflow_add-at c).In-Extinf))
 
-pub returns-in-Ok-extinf_end : goal.returns-in-Ok-extinf_end
-returns-in-Ok-extinf_end c = extinf_ends _ _ (sym (ap extinf_end c.in-Ok-extinf_end.is) ∙ c.extinf_end.ensures) (of_kind _ _ c.kind_at.ensures c.in-Extinf.is)
+pub returns-in-Some : goal.returns-in-Some
+returns-in-Some c = extinf_ends _ _ (sym (ap extinf_end c.in-Some.is) ∙ c.extinf_end.ensures) (of_kind _ _ c.kind_at.ensures c.in-Extinf.is)
 
-pub returns-in-Err-extinf_end : goal.returns-in-Err-extinf_end
-returns-in-Err-extinf_end c = extinf_ends _ _ (sym (ap extinf_end c.in-Err-extinf_end.is) ∙ c.extinf_end.ensures) (of_kind _ _ c.kind_at.ensures c.in-Extinf.is)
+pub returns-in-None : goal.returns-in-None
+returns-in-None c = extinf_ends _ _ (sym (ap extinf_end c.in-None.is) ∙ c.extinf_end.ensures) (of_kind _ _ c.kind_at.ensures c.in-Extinf.is)
 
 pub returns-in-Other : goal.returns-in-Other
 returns-in-Other c = ap end_in (of_kind _ _ c.kind_at.ensures c.in-Other.is)

@@ -11,8 +11,8 @@ returns-in-Ok c = rw (sym c.ext_tag.ensures ∙ ap ext_tag_res c.in-Ok.is)
 
 pub returns-in-Ok-comment_tag : goal.returns-in-Ok-comment_tag
 unfolding other_tag
-returns-in-Ok-comment_tag c = rw (sym c.ext_tag.ensures ∙ ap ext_tag_res c.in-Err.is, sym c.comment_tag.ensures ∙ ap part_res c.in-Ok-comment_tag.is)
+returns-in-Ok-comment_tag c = rw (sym c.ext_tag.ensures ∙ ap ext_tag_res c.in_default.is, sym c.comment_tag.ensures ∙ ap part_res c.in-Ok-comment_tag.is)
 
 pub returns : goal.returns
 unfolding other_tag
-returns c = rw (sym c.ext_tag.ensures ∙ ap ext_tag_res c.in-Err.is, sym c.comment_tag.ensures ∙ ap part_res c.in-Err-comment_tag.is) c.uri_line.ensures
+returns c = rw (sym c.ext_tag.ensures ∙ ap ext_tag_res c.in_default.is, sym c.comment_tag.ensures ∙ ap part_res c.in_default-comment_tag.is) c.uri_line.ensures

@@ -1,8 +1,8 @@
 -- `lay`: the records of the clips passed so far stand at the front of the table, the rest is as it was (`record_laid`), and with the window in hand the next
--- clip's is the rule's. The measure is the clips left. Assumes nothing.
+-- clip's is the rule's. Assumes nothing.
 use native.Mathlib.Omega.{arith}
 use native.Mathlib.Numerals.{add-one}
-use mathlib.Core.Path.{◌≡◌, refl, sym, ap, ◌∙◌}
+use mathlib.Core.Path.{refl, sym, ap, ◌∙◌}
 use lib.ListN.{length}
 use Rattle.tables.specs.Layout.{window_words}
 use Rattle.tables.proofs.Sets.{stored_length}
@@ -24,9 +24,3 @@ loop-k-preserved c =
       rw (w, add-one l.k) (window_after_lem _ _ l.k),
       record_next _ _ c.args.clips l.k _ _ _ l.out _ c.requires (omega arith) w c.words_of-record.ensures l.invariant.3 e,
     )
-
-pub returns : goal.returns
-returns c =
-    let l = c.loop-k in let a = c.args in
-    let i : l.k ≡ a.clips = omega (arith, l.invariant.0) in
-    rw i at l.invariant.3

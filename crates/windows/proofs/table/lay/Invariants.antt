@@ -1,4 +1,4 @@
-use Prim.Native.Nat.{◌-◌, ◌≤◌}
+use Prim.Native.Nat.{◌≤◌}
 use mathlib.Core.Path.{◌≡◌}
 use lib.ListN.{length}
 use Rattle.tables.proofs.Laying.{laid_to}
@@ -10,6 +10,3 @@ use Rattle.windows.proofs.table.lay.Given as goal
 
 abbrev pub invariant-loop-k : goal.invariant-loop-k
 invariant-loop-k l = (l.k ≤ l.clips) × (length l.out ≡ length l.initial.out) × (window_after l.text l.words l.k (answer_of l.before) ≡ window_of l.text l.words l.k) × (l.out ≡ laid_to (record_of l.text l.words) l.k l.initial.out)
-
-abbrev pub decreases-loop-k : goal.decreases-loop-k
-decreases-loop-k l = l.clips - l.k

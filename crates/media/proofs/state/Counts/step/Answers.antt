@@ -91,11 +91,11 @@ returns-else-too_many c =
       remembers_maps_2 = c.requires.remembers_maps;
     }
 
-pub returns-in-Fail : goal.returns-in-Fail
-returns-in-Fail c =
+pub returns-in-Err : goal.returns-in-Err
+returns-in-Err c =
     let read = c.media_playlist_tag.ensures c.requires.remembers_maps in
     record {
-      count_says = (_, no_step _ _ _ (sym read.0 ∙ ap tag_res c.in-Fail.is));
+      count_says = (_, no_step _ _ _ (sym read.0 ∙ ap tag_res c.in-Err.is));
       remembers_maps_2 = read.1;
     }
 
