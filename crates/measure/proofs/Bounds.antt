@@ -102,11 +102,6 @@ pub record Leaving (clips tags : List ℕ) (n room left k : ℕ) : Type 0 where
   pub within : clips_size tags (listed (clip_at clips) 0 n) + left ≤ room + clips_size tags (listed (clip_at clips) k (n - k))
   pub turn : k ≤ n
 
-pub leaving_none : (clips tags : List ℕ) (n room : ℕ) → Leaving clips tags n room room 0
-leaving_none clips tags n room =
-    let e : n - 0 ≡ n = omega arith in
-    record { within = rw e (omega arith); turn = omega arith }
-
 module _ {clips tags : List ℕ} {n room left k : ℕ} (h : Leaving clips tags n room left k) where
   pub leaving_more : {more : ℕ} → k < n → full_size tags (clip_at clips k) + more ≤ left → Leaving clips tags n room more (k + 1)
   leaving_more l e =

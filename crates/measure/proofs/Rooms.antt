@@ -9,7 +9,8 @@ use lib.Dec.{leb}
 use borrow.Author.Tests.{le-leb, lt-leb, leb-true, leb-false}
 use Rattle.tables.specs.Table.{listed}
 use Rattle.tables.proofs.Listed.{listed_left, listed_over}
-use Rattle.measure.specs.Inside.Room.{Room, left, short, room_for, Leaves}
+use Rattle.std.specs.Prelude.{is_some, Option as Perhaps, None, Some}
+use Rattle.measure.specs.Inside.Room.{Room, left, short, room_for, room_of, Leaves}
 
 module _ (room n : ℕ) where
   pub room_fits : n ≤ room → room_for room n ≡ left (room - n)
@@ -42,22 +43,22 @@ room_none room = sym (room_fits room 0 (omega arith) ∙ ap left (sub-zero room)
 
 -- one piece after another
 module _ (room a b : ℕ) where
-  pub room_then : {m : ℕ} → room_for room a ≡ left m → room_for m b ≡ room_for room (a + b)
-  room_then {m} e = go (leb b m) refl (fits_room room a e)
+  pub room_then : {m : ℕ} → (a ≤ room) × (m ≡ room - a) → room_for m b ≡ room_for room (a + b)
+  room_then {m} f = go (leb b m) refl
     where
-      go : (c : Bool) → leb b m ≡ c → (a ≤ room) × (m ≡ room - a) → room_for m b ≡ room_for room (a + b)
-      go true q f =
+      go : (c : Bool) → leb b m ≡ c → room_for m b ≡ room_for room (a + b)
+      go true q =
           let k : b ≤ m = leb-true b m q in
-          room_fits m b k ∙ ap left (omega arith) ∙ sym (room_fits room (a + b) (omega arith))
-      go false q f =
+          room_fits m b k ∙ ap left (omega (arith, f)) ∙ sym (room_fits room (a + b) (omega (arith, f)))
+      go false q =
           let k : m < b = leb-false b m q in
-          room_short m b k ∙ sym (room_short room (a + b) (omega arith))
+          room_short m b k ∙ sym (room_short room (a + b) (omega (arith, f)))
 
-  pub room_then_short : room_for room a ≡ short → short ≡ room_for room (a + b)
-  room_then_short e = sym (room_short room (a + b) (omega (arith, short_room room a e)))
+  pub room_then_short : room < a → short ≡ room_for room (a + b)
+  room_then_short l = sym (room_short room (a + b) (omega arith))
 
 -- ---- what is left at least: behind a piece that takes no more than `most`
-pub leaves_then : (room piece most n : ℕ) (r : Room) → piece ≤ most → most ≤ room → Leaves (room - most) n r → Leaves room (piece + n) r
+pub leaves_then : (room piece most n : ℕ) {rest : ℕ} (r : Room) → piece ≤ most → (most ≤ room) × (rest ≡ room - most) → Leaves rest n r → Leaves room (piece + n) r
 leaves_then room piece most n (left m) p l h = omega arith
 leaves_then room piece most n short p l h = tt
 
@@ -65,20 +66,14 @@ pub leaves_exactly : (room n : ℕ) (r : Room) → r ≡ room_for room n → Lea
 leaves_exactly room n (left m) e = omega (arith, fits_room room n (sym e))
 leaves_exactly room n short e = tt
 
-pub leaves_fits : (room n : ℕ) {r : Room} {m : ℕ} → Leaves room n r → r ≡ left m → n + m ≤ room
-leaves_fits room n {r} {m} h e = rw e at h
+pub leaves_some : (room n : ℕ) (r : Perhaps ℕ) → Leaves room n (room_of r) → is_some r ≡ true → n ≤ room
+leaves_some room n (Some m) h e = omega arith
+leaves_some room n None h e = cc
 
 -- ---- records one by one: what those from k on take of what is left is what all of them take of the room
 pub record Measuring {A : Type 0} (at : ℕ → A) (long : List A → ℕ) (room whole end rest k : ℕ) : Type 0 where
   pub same : room_for rest (long (listed at k (end - k))) ≡ room_for room whole
   pub turn : k ≤ end
-
-module _ {A : Type 0} (at : ℕ → A) (long : List A → ℕ) (room : ℕ) where
-  -- n records from record `from` on
-  pub measure_none : (from n : ℕ) → Measuring at long room (long (listed at from n)) (from + n) room from
-  measure_none from n =
-      let e : from + n - from ≡ n = omega arith in
-      record { same = ap (λ (m : ℕ). room_for room (long (listed at from m))) e; turn = omega arith }
 
 module _ {A : Type 0} {at : ℕ → A} {long : List A → ℕ} {room whole end rest k : ℕ} (h : Measuring at long room whole end rest k) where
   pub measure_end : long [] ≡ 0 → end ≤ k → left rest ≡ room_for room whole
@@ -89,8 +84,8 @@ module _ {A : Type 0} {at : ℕ → A} {long : List A → ℕ} {room whole end r
     one_more : room_for rest (n + long (listed at (k + 1) (end - (k + 1)))) ≡ room_for room whole
     one_more = ap (room_for rest) (sym (e (listed at (k + 1) (end - (k + 1))))) ∙ ap (λ (xs : List A). room_for rest (long xs)) (sym (listed_left at k end l)) ∙ h.same
 
-    pub measure_more : {m : ℕ} → room_for rest n ≡ left m → Measuring at long room whole end m (k + 1)
+    pub measure_more : {m : ℕ} → (n ≤ rest) × (m ≡ rest - n) → Measuring at long room whole end m (k + 1)
     measure_more q = record { same = room_then rest n _ q ∙ one_more; turn = omega arith }
 
-    pub measure_short : room_for rest n ≡ short → short ≡ room_for room whole
+    pub measure_short : rest < n → short ≡ room_for room whole
     measure_short q = room_then_short rest n _ q ∙ one_more

@@ -73,17 +73,20 @@ fn clip_left(clips: &[u64], k: usize, tags: &[u64], tag_count: usize, room: usiz
     requires tags_below { TagsBelow text_limit tags.now tag_count }
     ensures { Leaves room (full_size tags.now (clip_at clips.now k)) (room_of result) }
 {
-    let own = clip_most(clips, k);
-    if room < own {
-        return None;
-    }
+    let left = room.checked_sub(clip_most(clips, k))?;
     let first = held_word(clips, k, layout::FIRST_TAG);
     let count = held_word(clips, k, layout::TAG_COUNT);
-    room::tags_room(tags, first as usize, count as usize, room - own)
+    room::tags_room(tags, first as usize, count as usize, left)
 }
 
 // After all clips.
-fn clips_left(clips: &[u64], clip_count: usize, tags: &[u64], tag_count: usize, room: usize) -> Option<usize>
+fn clips_left(
+    clips: &[u64],
+    clip_count: usize,
+    tags: &[u64],
+    tag_count: usize,
+    room: usize,
+) -> Option<usize>
     requires clip_words_in_bounds { clip_count * layout.clip_words ≤ length clips.now }
     requires table_below { TableBelow text_limit clips.now clip_count }
     requires runs_within { RunsWithin clips.now clip_count tag_count }
@@ -115,9 +118,6 @@ pub(crate) fn whole_left(
 {
     let head = size::head_size(h);
     let end = size::mark_size(size::END_LINE, h.end_list);
-    let ends = head + end;
-    if room < ends {
-        return None;
-    }
-    clips_left(clips, clip_count, tags, tag_count, room - ends)
+    let left = room.checked_sub(head + end)?;
+    clips_left(clips, clip_count, tags, tag_count, left)
 }

@@ -13,12 +13,6 @@ use crate::size;
 use assembly::Clip;
 use assembly::head::Head;
 
-fn room_for(room: usize, n: usize) -> Option<usize>
-    ensures { room_of result ≡ room_for room n }
-{
-    room.checked_sub(n)
-}
-
 // After `count` unknown tags from tag `first` on.
 pub(crate) fn tags_room(tags: &[u64], first: usize, count: usize, room: usize) -> Option<usize>
     requires count_bound { first + count < 2 ^ 64 }
@@ -29,7 +23,7 @@ pub(crate) fn tags_room(tags: &[u64], first: usize, count: usize, room: usize) -
     let mut left = room;
     for k in first..end {
         let t = records::tag_at(tags, k);
-        left = room_for(left, size::tag_size(t))?;
+        left = left.checked_sub(size::tag_size(t))?;
     }
     Some(left)
 }
@@ -41,12 +35,18 @@ fn clip_room(tags: &[u64], tag_count: usize, c: Clip, room: usize) -> Option<usi
     requires clip_below { ClipBelow text_limit (clip_seen c) }
     ensures { room_of result ≡ room_for room (full_size tags.now (clip_seen c)) }
 {
-    let left = room_for(room, size::clip_size(c))?;
+    let left = room.checked_sub(size::clip_size(c))?;
     tags_room(tags, c.first, c.count, left)
 }
 
 // After all clips.
-fn clips_room(clips: &[u64], clip_count: usize, tags: &[u64], tag_count: usize, room: usize) -> Option<usize>
+fn clips_room(
+    clips: &[u64],
+    clip_count: usize,
+    tags: &[u64],
+    tag_count: usize,
+    room: usize,
+) -> Option<usize>
     requires runs_within { RunsWithin clips.now clip_count tag_count }
     requires tags_below { TagsBelow text_limit tags.now tag_count }
     requires clips_below { ClipsBelow text_limit clips.now clip_count }
@@ -77,6 +77,6 @@ pub(crate) fn whole_room(
 {
     let head = size::head_size(h);
     let end = size::mark_size(size::END_LINE, h.end_list);
-    let left = room_for(room, head + end)?;
+    let left = room.checked_sub(head + end)?;
     clips_room(clips, clip_count, tags, tag_count, left)
 }

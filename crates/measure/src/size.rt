@@ -104,10 +104,7 @@ fn range_value_size(r: ByteRange) -> usize
     let length = number_size(r.length);
     match r.offset {
         None => length,
-        Some(o) => {
-            let value = number_size(o);
-            length + 1 + value
-        }
+        Some(o) => length + 1 + number_size(o),
     }
 }
 
@@ -152,14 +149,12 @@ pub(crate) fn head_size(h: Head) -> usize
     ensures size { result ≡ head_size (head_seen h) }
     ensures most { result ≤ text_limit + 400 }
 {
-    let version = h.version;
-    let typ = h.playlist_type;
-    let versions = version_size(version);
+    let versions = version_size(h.version);
     let independent = mark_size(INDEPENDENT_LINE, h.independent_segments);
     let target = TARGET_LINE + number_size(h.target_duration);
     let sequence = sequence_size(SEQUENCE_LINE, h.media_sequence);
     let discontinuities = sequence_size(DISCONTINUITIES_LINE, h.discontinuity_sequence);
-    let types = type_size(typ);
+    let types = type_size(h.playlist_type);
     let frames = mark_size(I_FRAMES_LINE, h.i_frames_only);
     HEADER + versions + independent + target + sequence + discontinuities + types + frames
 }
@@ -174,10 +169,8 @@ fn map_size(m: Option<Map>) -> usize
     match m {
         None => 0,
         Some(m) => {
-            let uri = m.uri;
-            let range = m.byte_range;
-            let behind = range_size(MAP_RANGE, range);
-            MAP_LINE + behind + (uri.end - uri.start)
+            let behind = range_size(MAP_RANGE, m.byte_range);
+            MAP_LINE + behind + (m.uri.end - m.uri.start)
         }
     }
 }
@@ -188,10 +181,8 @@ pub(crate) fn tag_size(t: ExtTag) -> usize
     ensures size { result ≡ tag_size (ext_tag_of t) }
     ensures most { result ≤ 2 * text_limit + 100 }
 {
-    let name = t.tag;
-    let rest = t.rest;
-    let behind = part_size(COLON, rest);
-    TAG_LINE + (name.end - name.start) + behind
+    let behind = part_size(COLON, t.rest);
+    TAG_LINE + (t.tag.end - t.tag.start) + behind
 }
 
 // A clip's lines but those of its unknown tags.
@@ -201,14 +192,10 @@ pub(crate) fn clip_size(c: Clip) -> usize
     ensures most { result ≤ 3 * text_limit + 400 }
 {
     let segment = c.segment;
-    let uri = c.uri;
-    let map = segment.map;
-    let range = segment.byte_range;
-    let title = segment.title;
-    let maps = map_size(map);
-    let ranges = range_size(RANGE_LINE, range);
+    let maps = map_size(segment.map);
+    let ranges = range_size(RANGE_LINE, segment.byte_range);
     let mark = mark_size(DISCONTINUITY_LINE, segment.discontinuity);
     let length = length_size(segment.length);
-    let name = part_size(0, title);
-    maps + ranges + mark + (EXTINF_LINE + length + name) + (uri.end - uri.start + LF)
+    let name = part_size(0, segment.title);
+    maps + ranges + mark + (EXTINF_LINE + length + name) + (c.uri.end - c.uri.start + LF)
 }

@@ -9,8 +9,3 @@ pub returns-then-is_plain : goal.returns-then-is_plain
 returns-then-is_plain c =
     let a = c.args in
     puts_as (plain_text_lem a.text.now a.tags.now a.clips.now a.tag_count a.k (sym c.is_plain.ensures ∙ c.if-is_plain.true)) c.plain_clip.ensures
-
-pub returns : goal.returns
-returns c =
-    let a = c.args in
-    puts_as (ap (clip_text a.text.now a.tags.now a.tag_count) c.clip_at-c.ensures) c.clip.ensures

@@ -1,5 +1,4 @@
--- `tag_lines` meets its contract. The loop's invariant: the lines of the tags from tag k on, put from here on, are the whole put. The measure is how many
--- tags are left. Assumes nothing.
+-- `tag_lines` meets its contract. The loop's invariant: the lines of the tags from tag k on, put from here on, are the whole put. Assumes nothing.
 use borrow.Author.Rules.{rules}
 use native.Mathlib.Omega.{arith}
 use mathlib.Core.Path.{◌≡◌, ap, sym, ◌∙◌}
@@ -25,11 +24,8 @@ loop-k-preserved c =
     let tags = a.tags.now in
     let end = c.run_end-end.result in
     let k = c.loop-k.k in
-    let next = tags_next text tags k end (search rules) ∙ ap (λ t. line_bytes (tag_line_of text t) ++ tags_text text tags (k + 1) (end - (k + 1))) (sym c.tag_at-t.ensures) in
+    let next = tags_next text tags k end (search rules) ∙ ap (λ t. line_bytes (tag_line_of text t) ++ tags_text text tags (k + 1) (end - (k + 1))) (sym c.tag_at.ensures) in
     (search rules, left_on (left_as next c.loop-k.invariant.1) c.tag_line-to.ensures)
-
-pub shape_of-out : goal.shape_of-out
-shape_of-out c = c.loop-k.invariant.1.long
 
 pub returns : goal.returns
 returns c =

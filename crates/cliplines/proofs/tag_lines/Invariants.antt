@@ -5,6 +5,3 @@ use Rattle.cliplines.proofs.tag_lines.Given as goal
 
 abbrev pub invariant-loop-k : goal.invariant-loop-k
 invariant-loop-k l = (l.k ≤ l.end) × Left l.initial.out l.at (run_text l.text l.tags l.tag_count l.first l.count) l.out l.to (tags_text l.text l.tags l.k (l.end - l.k))
-
-abbrev pub decreases-loop-k : goal.decreases-loop-k
-decreases-loop-k l = l.end - l.k

@@ -7,9 +7,8 @@ use Rattle.rule9.specs.Rule9.{keeps_rule}
 use Rattle.measure.specs.Leave.{refusals}
 use Rattle.measure.specs.Inside.Room.{room_of}
 use Rattle.measure.proofs.Rule.{rule_below, rule_bound}
-use Rattle.measure.proofs.Rooms.{fits_room, leaves_fits}
+use Rattle.measure.proofs.Rooms.{fits_room, leaves_some}
 use Rattle.measure.proofs.Answered.{too_long, breaks_rule, too_short, has_room}
-use native.Mathlib.Omega.{arith}
 use mathlib.Core.Path.{◌≡◌}
 use borrow.Author.Rules.{rules}
 use Rattle.measure.proofs.may_write.Goals as goal
@@ -37,10 +36,8 @@ whole_left-requires c =
       tags_below = b.1.1.1.1;
     }
 
-pub returns-in-Some : goal.returns-in-Some
-returns-in-Some c =
-    let l = leaves_fits _ _ c.whole_left.ensures (ap room_of c.in-Some.is) in
-    ap refusals (sym (has_room _ _ _ _ _ _ _ (search rules) (keeps (goal.at.returns-in-Some c).Else-not-keeps_rule) (omega (arith, l))))
+pub returns-then-is_some : goal.returns-then-is_some
+returns-then-is_some c = ap refusals (sym (has_room _ _ _ _ _ _ _ (search rules) (keeps (goal.at.returns-then-is_some c).Else-not-keeps_rule) (leaves_some _ _ _ c.whole_left.ensures (sym c.is_some.ensures ∙ c.if-is_some.true))))
 
 pub whole_room-requires : goal.whole_room-requires
 whole_room-requires c =
@@ -53,10 +50,10 @@ whole_room-requires c =
       clips_below = b.1.1.1;
     }
 
-pub returns-in-Some-whole_room : goal.returns-in-Some-whole_room
-returns-in-Some-whole_room c =
-    let l = fits_room _ _ (sym c.whole_room.ensures ∙ ap room_of c.in-Some-whole_room.is) in
-    ap refusals (sym (has_room _ _ _ _ _ _ _ (search rules) (keeps (goal.at.returns-in-Some-whole_room c).Else-not-keeps_rule) l.0))
+pub returns-in-Some : goal.returns-in-Some
+returns-in-Some c =
+    let l = fits_room _ _ (sym c.whole_room.ensures ∙ ap room_of c.in-Some.is) in
+    ap refusals (sym (has_room _ _ _ _ _ _ _ (search rules) (keeps (goal.at.returns-in-Some c).Else-not-keeps_rule) l.0))
 
 pub returns-in-None : goal.returns-in-None
 returns-in-None c = ap refusals (sym (too_short _ _ _ _ _ _ _ (search rules) (keeps (goal.at.returns-in-None c).Else-not-keeps_rule) (sym c.whole_room.ensures ∙ ap room_of c.in-None.is)))

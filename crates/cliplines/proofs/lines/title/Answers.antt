@@ -4,6 +4,3 @@ use Rattle.cliplines.proofs.lines.title.Goals as goal
 
 pub returns-in-None : goal.returns-in-None
 returns-in-None c = rw c.in-None.is puts_none
-
-pub returns-in-Some : goal.returns-in-Some
-returns-in-Some c = rw c.in-Some.is c.shown.ensures

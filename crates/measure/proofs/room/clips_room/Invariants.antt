@@ -1,4 +1,3 @@
-use Prim.Native.Nat.{◌-◌}
 use Rattle.records.specs.Records.{clip_at, clips_at}
 use Rattle.measure.specs.Inside.Sizes.{clips_size}
 use Rattle.measure.proofs.Rooms.{Measuring}
@@ -6,6 +5,3 @@ use Rattle.measure.proofs.room.clips_room.Given as goal
 
 abbrev pub invariant-loop-k : goal.invariant-loop-k
 invariant-loop-k l = Measuring (clip_at l.clips) (clips_size l.tags) l.room (clips_size l.tags (clips_at l.clips l.clip_count)) l.clip_count l.left l.k
-
-abbrev pub decreases-loop-k : goal.decreases-loop-k
-decreases-loop-k l = l.clip_count - l.k

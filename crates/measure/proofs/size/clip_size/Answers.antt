@@ -9,33 +9,19 @@ use Rattle.measure.specs.Inside.Sizes.{clip_size}
 use Rattle.measure.proofs.Sizes.{where_long, range_long}
 use Rattle.measure.proofs.size.clip_size.Goals as goal
 
-pub overflow_add-result-7 : goal.overflow_add-result-7
-overflow_add-result-7 c = omega (arith, c.map_size-maps.ensures, c.range_size-ranges.ensures, c.mark_size-mark.ensures, c.requires.0)
-
-pub returns : goal.returns
+pub returns-clause-size : goal.returns-clause-size
 unfolding clip_size
-returns c =
+returns-clause-size c =
     let g = c.args.c.segment in
-    record {
-      size = omega (
-        arith,
-        c.requires.0,
-        c.map_size-maps.ensures,
-        c.range_size-ranges.ensures,
-        range_long (opt_range_of g.byte_range),
-        c.mark_size-mark.ensures,
-        where_long discontinuity_line g.discontinuity,
-        c.length_size-length.ensures,
-        length-append (length_text g.length) (bytes ",\n"),
-        c.part_size-name.ensures,
-      );
-      most = omega (
-        arith,
-        c.requires.0,
-        c.map_size-maps.ensures,
-        c.range_size-ranges.ensures,
-        c.mark_size-mark.ensures,
-        c.length_size-length.ensures,
-        c.part_size-name.ensures,
-      );
-    }
+    omega (
+      arith,
+      c.requires.0,
+      c.map_size-maps.ensures,
+      c.range_size-ranges.ensures,
+      range_long (opt_range_of g.byte_range),
+      c.mark_size-mark.ensures,
+      where_long discontinuity_line g.discontinuity,
+      c.length_size-length.ensures,
+      length-append (length_text g.length) (bytes ",\n"),
+      c.part_size-name.ensures,
+    )

@@ -9,17 +9,10 @@ use Rattle.playlist.proofs.Lines.{no_line}
 use Rattle.measure.proofs.Sizes.{one_long}
 use Rattle.measure.proofs.size.version_size.Goals as goal
 
-pub returns-in-None : goal.returns-in-None
-returns-in-None c =
-    record {
-      size = rw (c.in-None.is, no_line) (search rules);
-      most = omega arith;
-    }
+pub returns-in-None-clause-size : goal.returns-in-None-clause-size
+returns-in-None-clause-size c = rw (c.in-None.is, no_line) (search rules)
 
-pub returns-in-Some : goal.returns-in-Some
-returns-in-Some c =
+pub returns-in-Some-clause-size : goal.returns-in-Some-clause-size
+returns-in-Some-clause-size c =
     let n = c.in-Some.n in
-    record {
-      size = rw c.in-Some.is (omega (arith, c.number_size.ensures, one_long (version_line n), length-append (number_text n) (bytes "\n")));
-      most = omega (arith, c.number_size.ensures);
-    }
+    rw c.in-Some.is (omega (arith, c.number_size.ensures, one_long (version_line n), length-append (number_text n) (bytes "\n")))
