@@ -1,13 +1,13 @@
 -- What most lines are, by how they begin: a line that does not begin with `#` is a URI or fails, and only one that begins with `#EXTINF:` can be taken as
 -- an EXTINF, as only that alternative gives one (`numbered`). And back: what is told of a line is what the step takes there. Assumes nothing.
-use Prim.Native.Nat.{ℕ, ◌+◌, ◌≤◌, ◌<◌}
+use Prim.Native.Nat.{ℕ, ◌+◌, ◌<◌}
 use mathlib.Core.Path.{◌≡◌, refl, sym, ◌∙◌, ap, subst}
 use mathlib.Core.Bool.{Bool, true, false, cond, false≢true}
 use mathlib.Core.List.{List, []}
 use mathlib.Core.Option.{Option, none, some}
 use lib.Dec.{ltb}
 use lib.ListN.{length, get_or}
-use borrow.Author.Tests.{ltb-true, lt-ltb, le-ltb, eq-eqb}
+use borrow.Author.Tests.{ltb-true, lt-ltb, eq-eqb}
 use Rattle.text.specs.Why.{Why, other_text}
 use Rattle.text.specs.Nom.{Res, fail, ok, Span, bytes, tagged, bind}
 use Rattle.text.specs.Util.{consume_line}
@@ -24,9 +24,6 @@ use Rattle.tags.proofs.Numbered.{numbered}
 
 -- ---- the kind of a line, by the tests of how it begins
 module _ (text : List ℕ) (at : ℕ) where
-  pub kind_past : length text ≤ at → other_kind ≡ kind_at text at
-  kind_past h = rw (le-ltb at (length text) h)
-
   pub kind_uri : at < length text → (get_or text at 0 ≡ 35 → ⊥) → uri_kind ≡ kind_at text at
   kind_uri h not_so = rw (lt-ltb at (length text) h, tagged_not 35 [] text at not_so)
 

@@ -1,11 +1,8 @@
 -- `media_segment_tag`: a tag of a clip, or what else may stand there, with the memory that `segment_tag` leaves. Assumes nothing.
 use borrow.Author.Rules.{rules}
 use Rattle.tags.specs.Tags.{media_segment_tag}
-use Rattle.steps.proofs.Tried.{tried}
 use Rattle.steps.proofs.media_segment_tag.Goals as goal
 
 pub returns : goal.returns
 unfolding media_segment_tag
-returns c kept =
-    let clip = c.segment_tag.ensures kept in
-    (tried _ _ _ clip.0 c.or_else.ensures (λ e p. search rules), clip.1)
+returns c = search rules

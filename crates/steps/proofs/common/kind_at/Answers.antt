@@ -1,10 +1,7 @@
 -- `common::kind_at`: the tests of the code are those of the rule. Assumes nothing.
 use mathlib.Core.Path.{sym, ◌∙◌}
-use Rattle.steps.proofs.MostLines.{kind_past, kind_uri, kind_hash}
+use Rattle.steps.proofs.MostLines.{kind_uri, kind_hash}
 use Rattle.steps.proofs.common.kind_at.Goals as goal
-
-pub returns-then-text-at : goal.returns-then-text-at
-returns-then-text-at c = kind_past c.args.text.now _ c.if-text-at.true
 
 pub returns-then-text-at-ne35 : goal.returns-then-text-at-ne35
 returns-then-text-at-ne35 c = kind_uri c.args.text.now _ c.if-text-at.false c.if-text-at-ne35.true
