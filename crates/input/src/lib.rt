@@ -131,9 +131,9 @@ impl<R: Read> Input<R> {
         self.number_by_bytes()
     }
 
-    // A slice of numbers: their count, then the numbers, to the front of the lent words.
-    pub fn numbers(&mut self, words: &mut [u64]) -> Result<usize, Stop>
-        ensures bound { IfOk result (λ count. count ≤ length words.new) }
+    // A slice of numbers: their count, then the numbers, to the front of the lent words, which is answered.
+    pub fn numbers<'a>(&mut self, words: &'a mut [u64]) -> Result<&'a mut [u64], Stop>
+        ensures bound { IfOk result (λ front. length front.now ≤ length words.old) }
         ensures stands { Stands self.old self.new result }
         ensures stops { Stops self.new result }
     {
@@ -141,15 +141,16 @@ impl<R: Read> Input<R> {
         if words.len() < count {
             return Err(self.halt(Stop::TooLarge));
         }
-        for word in &mut words[..count] {
+        let front = &mut words[..count];
+        for word in front.iter_mut() {
             *word = self.number()?;
         }
-        Ok(count)
+        Ok(front)
     }
 
-    // A slice of bytes: their count, then the bytes, to the front of the lent text.
-    pub fn bytes(&mut self, text: &mut [u8]) -> Result<usize, Stop>
-        ensures bound { IfOk result (λ count. count ≤ length text.new) }
+    // A slice of bytes: their count, then the bytes, to the front of the lent text, which is answered.
+    pub fn bytes<'a>(&mut self, text: &'a mut [u8]) -> Result<&'a mut [u8], Stop>
+        ensures bound { IfOk result (λ front. length front.now ≤ length text.old) }
         ensures stands { Stands self.old self.new result }
         ensures stops { Stops self.new result }
     {
@@ -157,9 +158,10 @@ impl<R: Read> Input<R> {
         if text.len() < count {
             return Err(self.halt(Stop::TooLarge));
         }
-        for byte in &mut text[..count] {
+        let front = &mut text[..count];
+        for byte in front.iter_mut() {
             *byte = self.byte()?;
         }
-        Ok(count)
+        Ok(front)
     }
 }
