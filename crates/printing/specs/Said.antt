@@ -1,5 +1,5 @@
 -- What a program says: what its input asks for, or why it is refused. Assumes nothing.
-use Rattle.std.specs.Prelude.{◌≡◌, Option, Bool, true, false, List, [], ℕ}
+use Rattle.std.specs.Prelude.{◌≡◌, Option, Result, MatchResult, List, [], ℕ}
 use Rattle.tables.specs.Refusal.{Answer, refused, given, number_of}
 use Rattle.std.specs.Io.KnownBytes.{Appends}
 use Rattle.output.specs.Puts.{Puts, Sends}
@@ -22,10 +22,9 @@ module _ {O E : Type 0} (s r : Streams O E) where
   pub record SaidAs (answer : Answer (List ℕ)) : Type 0 where
     pub one : SaysOne answer
 
-  -- the same of a program whose input may have failed to come: then nothing is put
-  pub record SaysAs (failed : Bool) (answer : Answer (List ℕ)) : Type 0 where
-    pub nothing : failed ≡ true → r ≡ s
-    pub said : failed ≡ false → SaidAs answer
+  -- the same of a program whose input may have failed to come: by how many bytes came, and then nothing is put
+  abbrev pub SaysAs : {E : Type 0} → Result ℕ E → (ℕ → Answer (List ℕ)) → Type 0
+  SaysAs came answer = MatchResult came (λ count. SaidAs (answer count)) (λ _. r ≡ s)
 
   -- ---- the writers, where it is known what they held before
   module _ (on_out : O → Option (List ℕ)) (on_err : E → Option (List ℕ)) where

@@ -39,6 +39,13 @@ pub fn refused<W: Write>(out: &mut Output<W>, number: u64, place: usize)
     number_line(out, place as u64);
 }
 
+// What kept a program from its end: its input could not be read, or what it says could not be written.
+#[derive(Drop)]
+pub enum Failed {
+    Read(io::Error),
+    Write(io::Error),
+}
+
 // Says on standard error why a stream failed, in the operating system's words: the error's text also has its number, which nobody asked for.
 pub fn tell(rt: HostRuntime, what: &str, e: io::Error) {
     let _ = match format!(in rt.alloc(); "{e}") {
