@@ -1,15 +1,20 @@
 -- What is said at each exit: 1 by the program's own size, the reader's refusals, and what the writer's call makes of the clips that were read. Assumes nothing.
-use Prim.Native.Nat.{ℕ, ◌≤◌, ◌<◌}
+use Prim.Native.Nat.{ℕ, ◌+◌, ◌≤◌, ◌<◌}
 use mathlib.Core.Path.{◌≡◌, refl, sym, ap, ◌∙◌}
 use mathlib.Core.Bool.{Bool, true, false}
 use mathlib.Core.List.{List, ◌++◌}
 use native.Mathlib.Omega.{arith}
 use lib.Dec.{leb}
-use lib.ListN.{length, take}
+use lib.ListN.{length, take, drop, length-append}
 use lib.Seq.{take_all}
 use Rattle.std.proofs.Common.{length-take-le}
 use borrow.Author.Tests.{le-leb, lt-leb, leb-true, leb-false}
 use Rattle.tables.specs.Refusal.{Refusal, refused, given, laid, text_too_long}
+use Rattle.tables.specs.declared.Laid as laidᵈ
+use Rattle.tables.specs.Answers.{laid_of}
+use Rattle.cue_file.specs.Format.{version1}
+use Rattle.cue_file.specs.Write.{WrittenAs, cue_write, written}
+use Rattle.cue_file.proofs.Kept.{write_passed}
 use Rattle.assembly.specs.Words.{clips_words}
 use Rattle.media.specs.Calls.{parse_media_playlist, clips_read}
 use Rattle.media.specs.declared.Read as readᵈ
@@ -54,3 +59,13 @@ module _ (text : List ℕ) where
           let long : text_size < length text = leb-false (length text) text_size e in
           let front : length (take 65537 text) ≡ 65537 = length-take-le 65537 text (omega (arith, long)) in
           too_long (take 65537 text) (omega (arith, front)) ∙ sym (too_long text long)
+
+-- ---- the file that was written has room in its memory
+module _ (text t : List ℕ) (n : ℕ) (out₀ out : List ℕ) (r : laidᵈ.Laid) where
+  pub has_room : WrittenAs text t version1 n out₀ out r → (m : ℕ) → laid_of r ≡ given m → m ≤ length out
+  has_room p m e =
+      let given_too : cue_write text t version1 n out₀ ≡ given m = sym p.answered ∙ e in
+      let w = written text t version1 n in
+      let after : out ≡ w ++ drop (length w) out₀ = rw given_too at p.out_after in
+      let long : length out ≡ length w + length (drop (length w) out₀) = ap length after ∙ length-append w (drop (length w) out₀) in
+      omega (arith, long, (write_passed text t n version1 out₀ m given_too).1)

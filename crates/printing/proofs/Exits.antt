@@ -1,8 +1,8 @@
 -- What is said at a program's exits: a refusal, bytes, and nothing where the input failed to come. Assumes nothing.
-use mathlib.Core.Path.{◌≡◌, refl, ap, subst}
-use mathlib.Core.Bool.{Bool, true, false, not, false≢true}
+use mathlib.Core.Path.{◌≡◌, refl, ap, subst, ◌∙◌}
 use mathlib.Core.List.{List, []}
 use Prim.Native.Nat.{ℕ}
+use lib.ListN.{length, take}
 use Rattle.tables.specs.Refusal.{Refusal, Answer, refused, given, number_of}
 use Rattle.std.specs.Prelude.{Option, None, Some, IfSome, ◌≢◌}
 use Rattle.std.specs.declared.io.Error.{Error}
@@ -64,6 +64,16 @@ pub if_some : (o : Option (List ℕ)) (P Q : List ℕ → Type 0) → ((x : List
 if_some None P Q f p = tt
 if_some (Some x) P Q f p = f x p
 
-pub not_so : (b : Bool) → not b ≡ true → b ≡ false
-not_so true e = absurd (false≢true e)
-not_so false e = refl
+-- and where what came, a front of it, has the answer of all that the reader had, that is told
+module _ {O E : Type 0} (on_out : O → Option (List ℕ)) (on_err : E → Option (List ℕ)) (s r t : Streams O E) (answer : List ℕ → Answer (List ℕ)) (room : ℕ) where
+  pub told_of : ((bytes : List ℕ) → answer (take room bytes) ≡ answer bytes) → (remaining : Option (List ℕ)) (text : List ℕ) (count : ℕ) → length text ≡ room
+      → IfSome remaining (λ bytes. take count text ≡ take (length text) bytes) → SendsAs s r on_out on_err (answer (take count text))
+      → why r.out ≡ None → Appends (on_out (behind r.out)) (on_out (behind t.out)) (waits r.out)
+      → why r.err ≡ None → Appends (on_err (behind r.err)) (on_err (behind t.err)) (waits r.err)
+      → IfSome remaining (λ bytes. Tells (held on_out s.out) (on_out (behind t.out)) (held on_err s.err) (on_err (behind t.err)) (answer bytes))
+  told_of front remaining text count long came goes n a m b =
+      let known : List ℕ → Type 0 = λ bytes. take count text ≡ take (length text) bytes in
+      let all : List ℕ → Type 0 = λ bytes. Tells (held on_out s.out) (on_out (behind t.out)) (held on_err s.err) (on_err (behind t.err)) (answer bytes) in
+      if_some remaining known all
+      (λ (bytes : List ℕ) (e : take count text ≡ take (length text) bytes). rw (ap answer (rw long at e) ∙ front bytes) at (told on_out on_err s r t (answer (take count text)) goes n a m b))
+      came
