@@ -65,8 +65,7 @@ fn read_list<O: Write, E: Write>(say: &mut Streams<O, E>, text: &[u8], memory: &
     ensures sent { SendsAs say.old say.new O.contents E.contents (rule.cue_file text.now) }
 {
     if TEXT_SIZE < text.len() {
-        let too_long = Refusal::TextTooLong;
-        return say.refuse(too_long.number(), 0);
+        return say.refuse(Refusal::TextTooLong.number(), 0);
     }
     match media::parse_media_playlist(text, &mut memory.clips, &mut memory.tags) {
         ParseAnswer::Refused(r, place) => say.refuse(r.number(), place),

@@ -29,8 +29,7 @@ fn show_file<O: Write, E: Write>(say: &mut Streams<O, E>, file: &[u8])
     ensures sent { SendsAs say.old say.new O.contents E.contents (rule.shown_file file.now) }
 {
     if FILE_SIZE < file.len() {
-        let too_long = Refusal::TextTooLong;
-        return say.refuse(too_long.number(), 0);
+        return say.refuse(Refusal::TextTooLong.number(), 0);
     }
     match Cues::new(file) {
         Opened::Refused(r) => say.refuse(r.number(), 0),

@@ -132,12 +132,14 @@ nothing_waits (Some a) None bytes p = absurd p
 nothing_waits (Some a) (Some b) bytes p = rw (append-nil a) at p
 
 module _ {W : Type 0} (contents : W → Option (List ℕ)) where
+  -- what grows where nothing waited is what the writer holds
+  pub held_empty : (o : Output W) (h : Option (List ℕ)) (bytes : List ℕ) → waits o ≡ [] → Appends (held contents o) h bytes → Appends (contents (behind o)) h bytes
+  held_empty o h bytes z p =
+      let P : List ℕ → Type 0 = λ w. Appends (append_known (contents (behind o)) w) h bytes in
+      nothing_waits (contents (behind o)) h bytes (subst P z p)
+
   pub sends_first : {s r : Output W} {bytes : List ℕ} → waits s ≡ [] → Sends contents s r bytes → SendsFirst contents s r bytes
-  sends_first {s} {r} {bytes} z p = record {
-    grows = λ h.
-        let P : List ℕ → Type 0 = λ w. Appends (append_known (contents (behind s)) w) (held contents r) bytes in
-        nothing_waits (contents (behind s)) (held contents r) bytes (subst P z (p.grows h));
-  }
+  sends_first {s} {r} {bytes} z p = record { grows = λ h. held_empty s (held contents r) bytes z (p.grows h) }
 
 sent_whole : (h₀ h₁ h₂ : Option (List ℕ)) (w bytes : List ℕ) → Appends h₀ (append_known h₁ w) bytes → Appends h₁ h₂ w → Appends h₀ h₂ bytes
 sent_whole None h₁ h₂ w bytes p q = tt
