@@ -1,6 +1,6 @@
 -- Numbers by computation over the rule. Assumes nothing.
 use Rattle.std.specs.Prelude.{◌≡◌, refl, [], ◌∷◌, ◌-◌, ◌^◌, replicate}
-use Rattle.input.specs.Held.{number_at}
+use Rattle.input.specs.Numbers.{number_at}
 
 -- the lowest byte first
 two_bytes : number_at 2 (9 ∷ 1 ∷ 2 ∷ 9 ∷ []) 1 ≡ 513

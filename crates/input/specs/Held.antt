@@ -1,30 +1,32 @@
--- What is taken from a buffer that holds it. Of what a read brings no contract can speak. Assumes nothing.
-use Rattle.std.specs.Prelude.{ℕ, zero, suc, ◌+◌, ◌*◌, ◌≡◌, Bool, true, false, not, ◌&&◌, leb, List, get_or}
-use Rattle.input.specs.declared.Stop as stopᵈ
-use Rattle.input.specs.declared.Stop.TheVariants as stopᵛ
-use Rattle.input.specs.declared.Input as inputᵈ
-use Rattle.input.specs.declared.Taken as takenᵈ
+-- What is taken from a buffer that holds it, and how a stop holds. Of what a read brings no contract can speak. Assumes nothing.
+use Rattle.std.specs.Prelude.{ℕ, ◌+◌, ◌≡◌, Bool, true, false, not, ◌&&◌, leb, Option, None, Some, Result, Ok, Err, IfSome, MatchResult}
+use Rattle.input.specs.declared.Stop.{Stop}
+use Rattle.input.specs.declared.Input.{Input}
+use Rattle.input.specs.declared.TheConstants.{ROOM}
+pub use Rattle.input.specs.Numbers.{number_at}
 
-abbrev pub room : ℕ
-room = 65536
-
-abbrev pub happened : stopᵈ.Stop → Bool
-happened stopᵛ.Not = false
-happened stopᵛ.Ended = true
-happened stopᵛ.TooLarge = true
-happened stopᵛ.ReadFailed = true
-
--- so many bytes from a place on as a number, the lowest first
-unfoldable pub number_at : ℕ → List ℕ → ℕ → ℕ
-number_at zero buffer at = 0
-number_at (suc n) buffer at = get_or buffer at 0 + 256 * number_at n buffer (at + 1)
+-- why it stopped is there
+abbrev pub happened : Option Stop → Bool
+happened None = false
+happened (Some stop) = true
 
 -- the input goes on, and so many bytes of the buffer are still to be taken
-unfoldable pub holds : ℕ → inputᵈ.Input → Bool
-holds n input = not (happened input.stop) && (leb input.end room && leb (input.at + n) input.end)
+unfoldable pub holds : {R : Type 0} → ℕ → Input R → Bool
+holds n input = not (happened input.stop) && (leb input.end ROOM && leb (input.at + n) input.end)
 
--- they are taken: their number, the input after them, and the buffer as it was
-pub record TakenFrom (n : ℕ) (input : inputᵈ.Input) (buffer₀ buffer : List ℕ) (r : takenᵈ.Taken) : Type 0 where
-  pub value : r.value ≡ number_at n buffer₀ input.at
-  pub rest : r.rest ≡ record { at = input.at + n; end = input.end; stop = input.stop }
-  pub unchanged : buffer ≡ buffer₀
+-- they are taken: their number, the input after them, and the reader and the buffer as they were
+pub record TakenFrom {R : Type 0} (n : ℕ) (input₀ input : Input R) (answer : Result ℕ Stop) : Type 0 where
+  pub value : answer ≡ Ok (number_at n input₀.buffer input₀.at)
+  pub at : input.at ≡ input₀.at + n
+  pub end : input.end ≡ input₀.end
+  pub stop : input.stop ≡ input₀.stop
+  pub unchanged : input.buffer ≡ input₀.buffer
+  pub unread : input.from ≡ input₀.from
+
+-- an input that stopped answers its stop, and stays as it is
+abbrev pub Stands : {R A : Type 0} → Input R → Input R → Result A Stop → Type 0
+Stands input₀ input answer = IfSome input₀.stop (λ stop. (answer ≡ Err stop) × (input ≡ input₀))
+
+-- the input stopped where the answer is a stop, and only there
+abbrev pub Stops : {R A : Type 0} → Input R → Result A Stop → Type 0
+Stops input answer = MatchResult answer (λ _. input.stop ≡ None) (λ stop. input.stop ≡ Some stop)

@@ -1,40 +1,21 @@
 // An input that fits into memory, at once.
-ghost use Rattle.std.specs.Prelude.{◌≡◌, false, ◌≤◌, length, take, IfSome};
+ghost use Rattle.std.specs.Prelude.{◌≡◌, ◌≤◌, length, take, IfOk, IfSome};
 
+use std::io;
 use std::io::Read;
 
-// How many bytes came, and whether a read failed.
-#[derive(Clone, Copy)]
-pub struct Whole {
-    pub count: usize,
-    pub failed: bool,
-}
-
-// Reads until the text is full, the input ends or a read fails.
-pub fn read_all<R: Read>(from: &mut R, text: &mut [u8]) -> Whole
-    ensures bound { result.count ≤ length text.new }
-    ensures came { result.failed ≡ false → IfSome (R.remaining from.old) (λ xs. take result.count text.new ≡ take (length text.new) xs) }
+// Reads until the text is full, the input ends or a read fails, and answers how many bytes came, or why a read failed.
+pub fn read_all<R: Read>(from: &mut R, text: &mut [u8]) -> io::Result<usize>
+    ensures bound { IfOk result (λ count. count ≤ length text.new) }
+    ensures came { IfOk result (λ count. IfSome (R.remaining from.old) (λ xs. take count text.new ≡ take (length text.new) xs)) }
 {
     let mut count = 0usize;
     while count < text.len() {
         match from.read(&mut text[count..]) {
-            Err(_) => {
-                return Whole {
-                    count,
-                    failed: true,
-                };
-            }
-            Ok(0) => {
-                return Whole {
-                    count,
-                    failed: false,
-                };
-            }
+            Err(e) => return Err(e),
+            Ok(0) => return Ok(count),
             Ok(more) => count += more,
         }
     }
-    Whole {
-        count,
-        failed: false,
-    }
+    Ok(count)
 }

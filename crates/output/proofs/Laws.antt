@@ -1,6 +1,5 @@
 -- What waits after one byte, and what calls that put bytes say together: one behind the other they put as one. Assumes nothing.
-use mathlib.Core.Path.{◌≡◌, refl, sym, ap, ◌∙◌}
-use mathlib.Core.Bool.{Bool, true, false, false≢true}
+use mathlib.Core.Path.{◌≡◌, refl, sym, ap, subst, ◌∙◌}
 use mathlib.Core.List.{List, [], ◌∷◌, ◌++◌, append-nil, append_assoc}
 use Prim.Native.Nat.{ℕ, ◌+◌, ◌-◌, ◌≤◌, ◌<◌}
 use native.Mathlib.Omega.{arith}
@@ -8,10 +7,12 @@ use native.Mathlib.Numerals.{add-one}
 use lib.ListN.{set, length, drop, take, get_or, length-take, length-append}
 use lib.Seq.{take-suc, take-suc-set, take_all}
 use borrow.Author.Tests.{lt-ltb, le-leb, lt-leb}
-use Rattle.std.specs.Prelude.{Option, None, Some}
+use Rattle.std.specs.Prelude.{Option, None, Some, ◌≢◌}
+use Rattle.std.specs.declared.io.Error.{Error}
 use Rattle.std.specs.Io.KnownBytes.{Appends, append_known}
-use Rattle.output.specs.declared.Waits.{Waits}
+use Rattle.output.specs.declared.Output.{Output}
 use Rattle.output.specs.Waiting.{room, with_byte, with_bytes, part}
+use Rattle.output.specs.Held.{waits, why, behind, held}
 use Rattle.output.specs.Puts.{Puts, PutsFirst, Sends, SendsFirst}
 
 -- a byte into a buffer that has room, and into a full one
@@ -41,16 +42,20 @@ all_wait w (b ∷ bytes) h =
     let n : length (w ++ (b ∷ [])) ≡ length w + 1 = length-append w (b ∷ []) in
     rw (lt-ltb (length w) room (omega arith)) (all_wait (w ++ (b ∷ [])) bytes (omega (arith, n)) ∙ append_assoc w (b ∷ []) bytes)
 
--- ---- nothing, one call behind the other, and the same bytes in other words
-pub puts_none : (buffer : List ℕ) (s : Waits) → Puts buffer buffer s s []
-unfolding with_bytes
-puts_none buffer s = record { waiting = refl; stays = λ h. h; room_left = λ h. (omega arith, refl) }
+-- and so many more wait
+pub more_wait : (w w' bytes : List ℕ) → w' ≡ with_bytes w bytes → length w + length bytes ≤ room → length w' ≡ length w + length bytes
+more_wait w w' bytes e h = ap length (e ∙ all_wait w bytes h) ∙ length-append w bytes
 
-module _ {buffer₀ buffer₁ buffer₂ xs ys : List ℕ} {s r t : Waits} where
-  pub puts_then : Puts buffer₀ buffer₁ s r xs → Puts buffer₁ buffer₂ r t ys → Puts buffer₀ buffer₂ s t (xs ++ ys)
-  puts_then p q = record {
-    waiting = q.waiting ∙ (ap (λ (w : List ℕ). with_bytes w ys) p.waiting ∙ sym (bytes_append (take s.count buffer₀) xs ys));
-    stays = λ h. q.stays (p.stays h);
+-- ---- nothing, one call behind the other, and the same bytes in other words
+module _ {W : Type 0} where
+  pub puts_none : (s : Output W) → Puts s s []
+  unfolding with_bytes
+  puts_none s = record { waiting = refl; stays = λ h. refl; room_left = λ h. (omega arith, refl) }
+
+  pub puts_then : {s r t : Output W} {xs ys : List ℕ} → Puts s r xs → Puts r t ys → Puts s t (xs ++ ys)
+  puts_then {s} {r} {t} {xs} {ys} p q = record {
+    waiting = q.waiting ∙ (ap (λ (w : List ℕ). with_bytes w ys) p.waiting ∙ sym (bytes_append (waits s) xs ys));
+    stays = λ h. q.stays (λ e. h (sym (p.stays h) ∙ e)) ∙ p.stays h;
     room_left = λ h.
         let n = length-append xs ys in
         let u = p.room_left (omega (arith, n, h)) in
@@ -58,22 +63,17 @@ module _ {buffer₀ buffer₁ buffer₂ xs ys : List ℕ} {s r t : Waits} where
         (omega (arith, n, u.0, v.0), v.1 ∙ u.1);
   }
 
-pub puts_as : {buffer₀ buffer xs ys : List ℕ} {s r : Waits} → xs ≡ ys → Puts buffer₀ buffer s r xs → Puts buffer₀ buffer s r ys
-puts_as e p = rw e at p
+  pub puts_as : {s r : Output W} {xs ys : List ℕ} → xs ≡ ys → Puts s r xs → Puts s r ys
+  puts_as e p = rw e at p
 
--- ---- into an empty buffer
-pub puts_first : {buffer₀ buffer bytes : List ℕ} {s r : Waits} → (s.count ≡ 0) × (s.failed ≡ false) → Puts buffer₀ buffer s r bytes → PutsFirst buffer r bytes
-puts_first {buffer₀} {buffer} {bytes} {s} {r} e p = record {
-  waiting = p.waiting ∙ ap (λ (n : ℕ). with_bytes (take n buffer₀) bytes) e.0;
-  room_left = λ h. let u = p.room_left (omega (arith, e.0, h)) in (omega (arith, e.0, u.0), u.1 ∙ e.1);
-}
-
-pub first_none : (buffer : List ℕ) (r : Waits) → (r.count ≡ 0) × (r.failed ≡ false) → PutsFirst buffer r []
-unfolding with_bytes
-first_none buffer r e = record { waiting = ap (λ (n : ℕ). take n buffer) e.0; room_left = λ h. e }
-
-pub first_as : {buffer xs ys : List ℕ} {r : Waits} → xs ≡ ys → PutsFirst buffer r xs → PutsFirst buffer r ys
-first_as e p = rw e at p
+  -- ---- into an empty buffer
+  pub puts_first : {s r : Output W} {bytes : List ℕ} → waits s ≡ [] → why s ≡ None → Puts s r bytes → PutsFirst r bytes
+  puts_first {s} {r} {bytes} z n p =
+      let none : length (waits s) ≡ 0 = ap length z in
+      record {
+        waiting = p.waiting ∙ ap (λ (w : List ℕ). with_bytes w bytes) z;
+        room_left = λ h. let u = p.room_left (omega (arith, none, h)) in (omega (arith, none, u.0), u.1 ∙ n);
+      }
 
 -- ---- what the writer holds, and what waits behind it
 -- one call behind the other
@@ -99,29 +99,31 @@ appends_written (Some a) None w bytes p = absurd p
 appends_written (Some a) (Some b) w bytes p = ap (λ (zs : List ℕ). zs ++ bytes) p
 
 -- no failure after it is none before it
-none_before : (b c : Bool) → (b ≡ true → c ≡ true) → c ≡ false → b ≡ false
-none_before true c f e = absurd (false≢true (sym e ∙ f refl))
-none_before false c f e = refl
+none_before : (b c : Option Error) → (b ≢ None → c ≡ b) → c ≡ None → b ≡ None
+none_before None c f e = refl
+none_before (Some x) c f e =
+    let some : Some x ≢ None = λ h. cc h in
+    absurd (some (sym (f some) ∙ e))
 
-pub sends_none : (held : Option (List ℕ)) (buffer : List ℕ) (s : Waits) → Sends held held buffer buffer s s []
-sends_none held buffer s = record { grows = λ h. appends_none (append_known held (take s.count buffer)) }
+module _ {W : Type 0} (contents : W → Option (List ℕ)) where
+  pub sends_none : (s : Output W) → Sends contents s s []
+  sends_none s = record { grows = λ h. appends_none (held contents s) }
 
-module _ {held₀ held₁ held₂ : Option (List ℕ)} {buffer₀ buffer₁ buffer₂ xs ys : List ℕ} {s r t : Waits} where
-  pub sends_then : Puts buffer₁ buffer₂ r t ys → Sends held₀ held₁ buffer₀ buffer₁ s r xs → Sends held₁ held₂ buffer₁ buffer₂ r t ys → Sends held₀ held₂ buffer₀ buffer₂ s t (xs ++ ys)
-  sends_then u p q = record {
-    grows = λ h. appends_then (append_known held₀ (take s.count buffer₀)) (append_known held₁ (take r.count buffer₁)) (append_known held₂ (take t.count buffer₂)) xs ys (p.grows (none_before r.failed t.failed u.stays h)) (q.grows h);
+  pub sends_then : {s r t : Output W} {xs ys : List ℕ} → Puts r t ys → Sends contents s r xs → Sends contents r t ys → Sends contents s t (xs ++ ys)
+  sends_then {s} {r} {t} {xs} {ys} u p q = record {
+    grows = λ h. appends_then (held contents s) (held contents r) (held contents t) xs ys (p.grows (none_before (why r) (why t) u.stays h)) (q.grows h);
   }
 
-pub sends_as : {held₀ held : Option (List ℕ)} {buffer₀ buffer xs ys : List ℕ} {s r : Waits} → xs ≡ ys → Sends held₀ held buffer₀ buffer s r xs → Sends held₀ held buffer₀ buffer s r ys
-sends_as e p = rw e at p
+  pub sends_as : {s r : Output W} {xs ys : List ℕ} → xs ≡ ys → Sends contents s r xs → Sends contents s r ys
+  sends_as e p = rw e at p
 
 -- a byte into a buffer that has room, and into a full one
-module _ (held : Option (List ℕ)) (l : List ℕ) (at b : ℕ) where
-  pub sends_with_room : at < length l → Appends (append_known held (take at l)) (append_known held (take (at + 1) (set l at b))) (b ∷ [])
-  sends_with_room h = appends_waiting held (take at l) (take (at + 1) (set l at b)) (b ∷ []) (rw (add-one, take-suc-set l at b h))
+module _ (known : Option (List ℕ)) (l : List ℕ) (at b : ℕ) where
+  pub sends_with_room : at < length l → Appends (append_known known (take at l)) (append_known known (take (at + 1) (set l at b))) (b ∷ [])
+  sends_with_room h = appends_waiting known (take at l) (take (at + 1) (set l at b)) (b ∷ []) (rw (add-one, take-suc-set l at b h))
 
-  pub sends_when_full : (held₀ : Option (List ℕ)) → length l ≤ at → 0 < length l → Appends held₀ held l → Appends (append_known held₀ (take at l)) (append_known held (take 1 (set l 0 b))) (b ∷ [])
-  sends_when_full held₀ h k p = rw (take_all at l h, take-suc-set l 0 b k) (appends_written held₀ held l (b ∷ []) p)
+  pub sends_when_full : (before : Option (List ℕ)) → length l ≤ at → 0 < length l → Appends before known l → Appends (append_known before (take at l)) (append_known known (take 1 (set l 0 b))) (b ∷ [])
+  sends_when_full before h k p = rw (take_all at l h, take-suc-set l 0 b k) (appends_written before known l (b ∷ []) p)
 
 -- ---- into an empty buffer, and all of it written
 nothing_waits : (h₀ h : Option (List ℕ)) (bytes : List ℕ) → Appends (append_known h₀ []) h bytes → Appends h₀ h bytes
@@ -129,16 +131,15 @@ nothing_waits None h bytes p = tt
 nothing_waits (Some a) None bytes p = absurd p
 nothing_waits (Some a) (Some b) bytes p = rw (append-nil a) at p
 
-pub sends_first : {held₀ held : Option (List ℕ)} {buffer₀ buffer bytes : List ℕ} {s r : Waits} → (s.count ≡ 0) × (s.failed ≡ false) → Sends held₀ held buffer₀ buffer s r bytes → SendsFirst held₀ held buffer r bytes
-sends_first {held₀} {held} {buffer₀} {buffer} {bytes} {s} {r} e p = record {
-  grows = λ h. nothing_waits held₀ (append_known held (take r.count buffer)) bytes (rw (e.0) at (p.grows h));
-}
+module _ {W : Type 0} (contents : W → Option (List ℕ)) where
+  -- what grows where nothing waited is what the writer holds
+  pub held_empty : (o : Output W) (h : Option (List ℕ)) (bytes : List ℕ) → waits o ≡ [] → Appends (held contents o) h bytes → Appends (contents (behind o)) h bytes
+  held_empty o h bytes z p =
+      let P : List ℕ → Type 0 = λ w. Appends (append_known (contents (behind o)) w) h bytes in
+      nothing_waits (contents (behind o)) h bytes (subst P z p)
 
-pub sends_first_none : (held : Option (List ℕ)) (buffer : List ℕ) (r : Waits) → r.count ≡ 0 → SendsFirst held held buffer r []
-sends_first_none held buffer r e = record { grows = λ h. nothing_waits held (append_known held (take r.count buffer)) [] (rw e (appends_none (append_known held []))) }
-
-pub sends_first_as : {held₀ held : Option (List ℕ)} {buffer xs ys : List ℕ} {r : Waits} → xs ≡ ys → SendsFirst held₀ held buffer r xs → SendsFirst held₀ held buffer r ys
-sends_first_as e p = rw e at p
+  pub sends_first : {s r : Output W} {bytes : List ℕ} → waits s ≡ [] → Sends contents s r bytes → SendsFirst contents s r bytes
+  sends_first {s} {r} {bytes} z p = record { grows = λ h. held_empty s (held contents r) bytes z (p.grows h) }
 
 sent_whole : (h₀ h₁ h₂ : Option (List ℕ)) (w bytes : List ℕ) → Appends h₀ (append_known h₁ w) bytes → Appends h₁ h₂ w → Appends h₀ h₂ bytes
 sent_whole None h₁ h₂ w bytes p q = tt
@@ -146,9 +147,10 @@ sent_whole (Some a) None h₂ w bytes p q = absurd p
 sent_whole (Some a) (Some b) None w bytes p q = absurd q
 sent_whole (Some a) (Some b) (Some c) w bytes p q = q ∙ p
 
--- the first bytes, and a flush that went
-pub sent : {held₀ held₁ : Option (List ℕ)} (held₂ : Option (List ℕ)) {buffer bytes : List ℕ} {r : Waits} → SendsFirst held₀ held₁ buffer r bytes → r.failed ≡ false → Appends held₁ held₂ (take r.count buffer) → Appends held₀ held₂ bytes
-sent {held₀} {held₁} held₂ {buffer} {bytes} {r} p h q = sent_whole held₀ held₁ held₂ (take r.count buffer) bytes (p.grows h) q
+-- bytes, and a flush that went
+module _ {W : Type 0} (contents : W → Option (List ℕ)) where
+  pub sent : {s r : Output W} (w : W) {bytes : List ℕ} → Sends contents s r bytes → why r ≡ None → Appends (contents (behind r)) (contents w) (waits r) → Appends (held contents s) (contents w) bytes
+  sent {s} {r} w {bytes} p h q = sent_whole (held contents s) (contents (behind r)) (contents w) (waits r) bytes (p.grows h) q
 
 -- ---- the bytes of a text, one after the other
 pub bytes_more : (bs : List ℕ) (k : ℕ) → k < length bs → take k bs ++ (get_or bs k 0 ∷ []) ≡ take (k + 1) bs

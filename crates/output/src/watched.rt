@@ -1,5 +1,5 @@
 // A writer that keeps why a write to it failed, so that a program can say it.
-ghost use Rattle.std.specs.Prelude.{◌≡◌, None, Some, IfErr, OnOk};
+ghost use Rattle.std.specs.Prelude.{◌≡◌, ◌≢◌, None, Some, IsErr, IfErr, OnOk, []};
 ghost use Rattle.std.specs.Io.{WritesAtMost};
 ghost use Rattle.std.specs.Io.KnownBytes.{Appends, Keeps, WriteAppends};
 
@@ -14,9 +14,42 @@ pub struct Watched<W> {
 
 impl<W> Watched<W> {
     pub fn new(to: W) -> Watched<W>
-        ensures { result.error ≡ None }
+        ensures behind { result.to ≡ to }
+        ensures went { result.error ≡ None }
     {
         Watched { to, error: None }
+    }
+
+    // What a call of the writer behind answered, and the error of one that failed is kept.
+    fn keep<T>(&mut self, answer: io::Result<T>) -> io::Result<T>
+        ensures same { result ≡ answer }
+        ensures behind { self.new.to ≡ self.old.to }
+        ensures kept { IfErr answer (λ e. self.new.error ≡ Some e) }
+        ensures unchanged { OnOk answer (self.new.error ≡ self.old.error) }
+    {
+        if let Err(e) = &answer {
+            self.error = Some(*e);
+        }
+        answer
+    }
+}
+
+impl<W: Write> Watched<W> {
+    // Writes all, or nothing after a write that failed: what arrives is a beginning of what was to be written.
+    pub fn write_on(&mut self, bytes: &[u8]) -> io::Result<()>
+        ensures sent { OnOk result (Appends (W.contents self.old.to) (W.contents self.new.to) bytes.now) }
+        ensures went { OnOk result (self.new.error ≡ None) }
+        ensures kept { IfErr result (λ e. self.new.error ≡ Some e) }
+        ensures stays { self.old.error ≢ None → IsErr result × (self.new ≡ self.old) }
+        ensures idle { bytes.now ≡ [] → self.new ≡ self.old }
+    {
+        if let Some(e) = self.error {
+            return Err(e);
+        }
+        if bytes.is_empty() {
+            return Ok(());
+        }
+        self.write_all(bytes)
     }
 }
 
@@ -29,13 +62,8 @@ impl<W: Write> Write for Watched<W> {
         ensures kept { IfErr result (λ e. self.new.error ≡ Some e) }
         ensures unchanged { OnOk result (self.new.error ≡ self.old.error) }
     {
-        match self.to.write(buf) {
-            Ok(count) => Ok(count),
-            Err(e) => {
-                self.error = Some(e);
-                Err(e)
-            }
-        }
+        let written = self.to.write(buf);
+        self.keep(written)
     }
 
     fn flush(&mut self) -> io::Result<()>
@@ -43,13 +71,8 @@ impl<W: Write> Write for Watched<W> {
         ensures kept { IfErr result (λ e. self.new.error ≡ Some e) }
         ensures unchanged { OnOk result (self.new.error ≡ self.old.error) }
     {
-        match self.to.flush() {
-            Ok(()) => Ok(()),
-            Err(e) => {
-                self.error = Some(e);
-                Err(e)
-            }
-        }
+        let flushed = self.to.flush();
+        self.keep(flushed)
     }
 
     fn write_all(&mut self, buf: &[u8]) -> io::Result<()>
@@ -57,12 +80,7 @@ impl<W: Write> Write for Watched<W> {
         ensures kept { IfErr result (λ e. self.new.error ≡ Some e) }
         ensures unchanged { OnOk result (self.new.error ≡ self.old.error) }
     {
-        match self.to.write_all(buf) {
-            Ok(()) => Ok(()),
-            Err(e) => {
-                self.error = Some(e);
-                Err(e)
-            }
-        }
+        let written = self.to.write_all(buf);
+        self.keep(written)
     }
 }

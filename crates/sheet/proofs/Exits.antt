@@ -3,7 +3,7 @@
 use Prim.Native.Nat.{ℕ, ◌≤◌, ◌<◌}
 use mathlib.Core.Path.{◌≡◌, refl, sym, ap, ◌∙◌}
 use mathlib.Core.Bool.{Bool, true, false}
-use mathlib.Core.List.{List, [], ◌++◌}
+use mathlib.Core.List.{List, ◌++◌}
 use native.Mathlib.Omega.{arith}
 use lib.Dec.{leb}
 use lib.ListN.{length, take}
@@ -16,9 +16,16 @@ use Rattle.media.specs.Calls.{parse_media_playlist, clips_read}
 use Rattle.media.specs.declared.Read as readᵈ
 use Rattle.media.specs.Answers.{read_seen}
 use Rattle.read_clips.proofs.Table.{clips_count, clips_sound}
+use Rattle.std.specs.Prelude.{Option, None, IfSome}
+use Rattle.std.specs.Io.KnownBytes.{Appends}
+use Rattle.output.specs.declared.Output.{Output}
+use Rattle.output.specs.Held.{waits, why, behind, held}
+use Rattle.output.specs.Puts.{Sends}
+use Rattle.output.proofs.Laws.{sent}
+use Rattle.printing.proofs.Exits.{if_some}
 use Rattle.printing.specs.Lines.{refused_line}
 use Rattle.printing.specs.Said.{printed}
-use Rattle.sheet.specs.Sheet.{text_size, clip_room, tag_room, read_sheet, sheet_text, program_text}
+use Rattle.sheet.specs.Sheet.{text_size, clip_room, tag_room, read_sheet, sheet_text}
 use Rattle.sheet.specs.Inside.Pass.{words_sheet}
 use Rattle.sheet.proofs.Words.{words_sheet_lem}
 
@@ -46,16 +53,6 @@ module _ (text : List ℕ) where
       pub was_read : (entry words : List ℕ) → words ≡ laid (parse_media_playlist text clip_room tag_room) (clips_words (clips_read text)) entry → printed (words_sheet text words r.clips) ≡ sheet_text text
       was_read entry words w = rw (w, e, clips_count text clip_room tag_room r e, sheet_read _) within
 
--- ---- a read that failed, and one that did not
-module _ (failed : Bool) (text : List ℕ) where
-  pub unread : failed ≡ true → program_text failed text ≡ []
-  unfolding program_text
-  unread e = rw e
-
-  pub came : failed ≡ false → program_text failed text ≡ sheet_text text
-  unfolding program_text
-  came e = rw e
-
 -- ---- the program reads a byte more than it prints the sheet of: of what is longer, that it is
 module _ (text : List ℕ) where
   pub front_prints : sheet_text (take 65537 text) ≡ sheet_text text
@@ -67,3 +64,12 @@ module _ (text : List ℕ) where
           let long : text_size < length text = leb-false (length text) text_size e in
           let front : length (take 65537 text) ≡ 65537 = length-take-le 65537 text (omega (arith, long)) in
           sym (too_long (take 65537 text) (omega (arith, front))) ∙ too_long text long
+
+-- what came is printed and written: then all that the reader had is
+module _ {W : Type 0} (contents : W → Option (List ℕ)) (o p q : Output W) (remaining : Option (List ℕ)) (text : List ℕ) (count : ℕ) where
+  pub front_printed : length text ≡ 65537 → IfSome remaining (λ bytes. take count text ≡ take (length text) bytes) → Sends contents o p (sheet_text (take count text))
+      → why p ≡ None → Appends (contents (behind p)) (contents (behind q)) (waits p) → IfSome remaining (λ bytes. Appends (held contents o) (contents (behind q)) (sheet_text bytes))
+  front_printed long came sends went wrote =
+      if_some remaining (λ bytes. take count text ≡ take (length text) bytes) (λ bytes. Appends (held contents o) (contents (behind q)) (sheet_text bytes))
+      (λ bytes e. rw (ap sheet_text (rw long at e) ∙ front_prints bytes) at (sent contents (behind q) sends went wrote))
+      came

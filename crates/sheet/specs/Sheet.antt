@@ -1,5 +1,5 @@
 -- The turn sheet (01): what the program prints of a text, byte for byte. Assumes nothing.
-use Rattle.std.specs.Prelude.{ℕ, suc, ◌+◌, ◌*◌, Bool, cond, List, [], ◌∷◌, ◌++◌, leb, length}
+use Rattle.std.specs.Prelude.{ℕ, suc, ◌+◌, ◌*◌, List, [], ◌∷◌, ◌++◌, leb, length}
 use Rattle.text.specs.Nom.{bytes}
 use Rattle.text.specs.Spans.{shown}
 use Rattle.tables.specs.Layout.{clip_words, tag_words}
@@ -57,7 +57,3 @@ read_sheet text =
 
 unfoldable pub sheet_text : List ℕ → List ℕ
 sheet_text text = printed (or_refuse (leb (length text) text_size) text_too_long 0 (read_sheet text))
-
--- and nothing where the text could not be read
-unfoldable pub program_text : Bool → List ℕ → List ℕ
-program_text failed text = cond failed [] (sheet_text text)

@@ -1,5 +1,5 @@
 -- `read_list`: each exit by what is said there (`Exits`). Assumes nothing.
-use mathlib.Core.Path.{◌≡◌, refl, sym, ap, ◌∙◌}
+use mathlib.Core.Path.{◌≡◌, sym, ap, ◌∙◌}
 use lib.ListN.{length}
 use borrow.Author.Rules.{rules}
 use Rattle.media.specs.Answers.{parse_answer}
@@ -12,29 +12,29 @@ pub returns-then-text-gt-TEXT_SIZE : goal.returns-then-text-gt-TEXT_SIZE
 returns-then-text-gt-TEXT_SIZE g c =
     let why = too_long c.args.text.now (search rules) in
     record {
-      says = said_refused _ _ 0 c.number.ensures why c.refusal.ensures.puts;
-      sent = sends_refused _ _ 0 c.number.ensures why refl c.refusal.ensures.sent;
+      says = said_refused _ _ 0 c.number.ensures why c.refuse.ensures.aside c.refuse.ensures.puts;
+      sent = sends_refused g.O.Write.contents g.E.Write.contents _ _ 0 c.number.ensures why c.refuse.ensures.aside c.refuse.ensures.sent;
     }
 
 pub returns-in-Refused : goal.returns-in-Refused
 returns-in-Refused g c =
     let a = c.args in
-    let l : length a.clips.now ≡ clip_room = search rules in
-    let m : length a.tags.now ≡ tag_room = search rules in
+    let l : length a.memory.now.clips ≡ clip_room = search rules in
+    let m : length a.memory.now.tags ≡ tag_room = search rules in
     let e = sym c.parse_media_playlist.ensures.answered ∙ ap parse_answer c.in-Refused.is in
     let why = not_read a.text.now (search rules) _ _ (rw (l, m) at e) in
     record {
-      says = said_refused _ _ _ c.number-in-Refused.ensures why c.refusal-in-Refused.ensures.puts;
-      sent = sends_refused _ _ _ c.number-in-Refused.ensures why refl c.refusal-in-Refused.ensures.sent;
+      says = said_refused _ _ _ c.number-in-Refused.ensures why c.refuse-in-Refused.ensures.aside c.refuse-in-Refused.ensures.puts;
+      sent = sends_refused g.O.Write.contents g.E.Write.contents _ _ _ c.number-in-Refused.ensures why c.refuse-in-Refused.ensures.aside c.refuse-in-Refused.ensures.sent;
     }
 
 pub returns-in-Given : goal.returns-in-Given
 returns-in-Given g c =
     let a = c.args in
-    let l : length a.clips.now ≡ clip_room = search rules in
-    let m : length a.tags.now ≡ tag_room = search rules in
-    let o : length a.out.now ≡ file_room = search rules in
+    let l : length a.memory.now.clips ≡ clip_room = search rules in
+    let m : length a.memory.now.tags ≡ tag_room = search rules in
+    let o : length a.memory.now.file ≡ file_room = search rules in
     let e = sym c.parse_media_playlist.ensures.answered ∙ ap parse_answer c.in-Given.is in
     let w = c.parse_media_playlist.ensures.clips_after in
-    let said = was_read a.text.now (search rules) c.in-Given.read (rw (l, m) at e) _ _ a.out.now o (rw (l, m) at w) in
+    let said = was_read a.text.now (search rules) c.in-Given.read (rw (l, m) at e) _ _ a.memory.now.file o (rw (l, m) at w) in
     record { says = rw said at c.make_file.ensures.says; sent = rw said at c.make_file.ensures.sent }

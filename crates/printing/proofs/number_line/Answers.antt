@@ -5,7 +5,7 @@ use Rattle.printing.proofs.number_line.Goals as goal
 
 pub returns : goal.returns
 unfolding number_line
-returns g c = record {
-  puts = puts_then c.put_number-waits.ensures.puts c.put_byte.ensures.puts;
-  sent = sends_then c.put_byte.ensures.puts c.put_number-waits.ensures.sent c.put_byte.ensures.sent;
-}
+returns g c =
+    let digits = c.put_number.ensures in
+    let end = c.put_byte.ensures in
+    record { puts = puts_then digits.puts end.puts; sent = sends_then g.W.Write.contents end.puts digits.sent end.sent }

@@ -4,7 +4,7 @@ use mathlib.Core.Path.{sym, ap, ◌∙◌}
 use Rattle.tables.specs.Refusal.{Answer}
 use Rattle.starts.specs.Answers.{opened_of}
 use Rattle.starts.specs.Starts.{Cursor}
-use Rattle.output.proofs.Laws.{first_as, sends_first_as}
+use Rattle.output.proofs.Laws.{puts_as, sends_as}
 use Rattle.printing.specs.Lines.{refused_line}
 use Rattle.printing.specs.Said.{printed}
 use Rattle.sheet.specs.Inside.Pass.{opened_sheet, words_sheet}
@@ -15,11 +15,11 @@ unfolding words_sheet
 returns-in-Refused g c =
     let a = c.args in
     let e = ap (λ (n : ℕ). refused_line n 0) c.number.ensures ∙ ap (λ (x : Answer Cursor). printed (opened_sheet a.text.now a.words.now x)) (sym (ap opened_of c.in-Refused.is) ∙ c.new.ensures) in
-    record { puts = first_as e c.refused.ensures.puts; sent = sends_first_as e c.refused.ensures.sent }
+    record { puts = puts_as e c.refused.ensures.puts; sent = sends_as g.O.Write.contents e c.refused.ensures.sent }
 
 pub returns-in-Given : goal.returns-in-Given
 unfolding words_sheet
 returns-in-Given g c =
     let a = c.args in
     let e = ap (λ (x : Answer Cursor). printed (opened_sheet a.text.now a.words.now x)) (sym (ap opened_of c.in-Given.is) ∙ c.new.ensures) in
-    record { puts = first_as e c.sheet.ensures.puts; sent = sends_first_as e c.sheet.ensures.sent }
+    record { puts = puts_as e c.sheet.ensures.puts; sent = sends_as g.O.Write.contents e c.sheet.ensures.sent }

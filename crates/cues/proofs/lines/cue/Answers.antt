@@ -6,14 +6,15 @@ use Rattle.cues.proofs.lines.cue.Goals as goal
 pub returns : goal.returns
 unfolding cue_line
 returns g c =
+    let contents = g.O.Write.contents in
     let line = c.put_byte.ensures.puts in
-    let uri = puts_then c.put_part-waits.ensures.puts line in
-    let start = puts_then c.field-waits-2.ensures.puts uri in
+    let uri = puts_then c.put_part.ensures.puts line in
+    let start = puts_then c.field-2.ensures.puts uri in
     record {
-      puts = puts_then c.field-waits.ensures.puts start;
+      puts = puts_then c.field.ensures.puts start;
       sent =
-          sends_then start c.field-waits.ensures.sent
-          (sends_then uri c.field-waits-2.ensures.sent
-          (sends_then line c.put_part-waits.ensures.sent
+          sends_then contents start c.field.ensures.sent
+          (sends_then contents uri c.field-2.ensures.sent
+          (sends_then contents line c.put_part.ensures.sent
           c.put_byte.ensures.sent));
     }

@@ -23,15 +23,15 @@ returns-in-Clip g c =
     record {
       moved = ap (step_after _) e;
       puts = puts_as (ap (step_line _) e) c.cue.ensures.puts;
-      sent = sends_as (ap (step_line _) e) c.cue.ensures.sent;
+      sent = sends_as g.O.Write.contents (ap (step_line _) e) c.cue.ensures.sent;
     }
 
 pub returns-in_default : goal.returns-in_default
 returns-in_default g c =
     let a = c.args in
-    let none = no_clip a.file.now (cursor_of a.s.cues) c.next.result c.in_default.not-Clip in
+    let none = no_clip a.file.now (cursor_of a.cues) c.next.result c.in_default.not-Clip in
     record {
       moved = none.0 ∙ ap (step_after _) c.next.ensures;
-      puts = puts_as (none.1 ∙ ap (step_line _) c.next.ensures) (puts_none _ _);
-      sent = sends_as (none.1 ∙ ap (step_line _) c.next.ensures) (sends_none _ _ _);
+      puts = puts_as (none.1 ∙ ap (step_line _) c.next.ensures) (puts_none _);
+      sent = sends_as g.O.Write.contents (none.1 ∙ ap (step_line _) c.next.ensures) (sends_none g.O.Write.contents _);
     }

@@ -4,7 +4,7 @@ use Rattle.input.proofs.Came.{consumes_more, came_full, came_ended}
 use Rattle.input.proofs.whole.read_all.Goals as goal
 
 pub returns-in-Ok-eq0-clause-came : goal.returns-in-Ok-eq0-clause-came
-returns-in-Ok-eq0-clause-came g c = λ h.
+returns-in-Ok-eq0-clause-came g c =
     let n = c.in-Ok-eq0.ensures.bytes in
     came_ended c.loop-count.count _ c.in-Ok-eq0.field-0 c.loop-count.text c.read.new.buf (search rules) (search rules) _ _ _
     c.in-Ok-eq0.field-0-test (search rules) c.loop-count.invariant.2 n.0 (n.1 c.in-Ok-eq0.field-0-test (search rules))
@@ -17,4 +17,4 @@ loop-count-preserved g c = (
 )
 
 pub returns-clause-came : goal.returns-clause-came
-returns-clause-came g c = λ h. came_full _ _ c.loop-count.count c.loop-count.text (search rules) c.loop-count.invariant.2
+returns-clause-came g c = came_full _ _ c.loop-count.count c.loop-count.text (search rules) c.loop-count.invariant.2

@@ -7,18 +7,19 @@ use Rattle.sheet.proofs.lines.clip.Goals as goal
 pub returns : goal.returns
 unfolding row_line clip_line
 returns g c =
+    let contents = g.O.Write.contents in
     let line = c.put_byte.ensures.puts in
-    let uri = puts_then (rw (c.clip_word-start.ensures, c.clip_word-end.ensures) at c.put_part-waits.ensures.puts) line in
-    let tick = puts_then c.field-waits-4.ensures.puts uri in
-    let length = puts_then c.field-waits-3.ensures.puts tick in
-    let start = puts_then c.field-waits-2.ensures.puts length in
+    let uri = puts_then (rw (c.clip_word-start.ensures, c.clip_word-end.ensures) at c.put_part.ensures.puts) line in
+    let tick = puts_then c.field-4.ensures.puts uri in
+    let length = puts_then c.field-3.ensures.puts tick in
+    let start = puts_then c.field-2.ensures.puts length in
     record {
-      puts = puts_then c.field-waits.ensures.puts start;
+      puts = puts_then c.field.ensures.puts start;
       sent =
-          sends_then start c.field-waits.ensures.sent
-          (sends_then length c.field-waits-2.ensures.sent
-          (sends_then tick c.field-waits-3.ensures.sent
-          (sends_then uri c.field-waits-4.ensures.sent
-          (sends_then line (rw (c.clip_word-start.ensures, c.clip_word-end.ensures) at c.put_part-waits.ensures.sent)
+          sends_then contents start c.field.ensures.sent
+          (sends_then contents length c.field-2.ensures.sent
+          (sends_then contents tick c.field-3.ensures.sent
+          (sends_then contents uri c.field-4.ensures.sent
+          (sends_then contents line (rw (c.clip_word-start.ensures, c.clip_word-end.ensures) at c.put_part.ensures.sent)
           c.put_byte.ensures.sent))));
     }

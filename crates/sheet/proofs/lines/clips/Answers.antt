@@ -1,4 +1,4 @@
--- `clips`: what was put and what the steps left will put are the whole. The measure is the clips left. Rests on `pass_on`, `pass_ends`. Assumes nothing.
+-- `clips`: what was put and what the steps left will put are the whole. Rests on `pass_on`, `pass_ends`. Assumes nothing.
 use mathlib.Core.Path.{◌∙◌}
 use mathlib.Core.List.{[]}
 use borrow.Author.Rules.{rules}
@@ -8,22 +8,21 @@ use Rattle.sheet.proofs.Pass.{pass_starts, pass_on, pass_ends}
 use Rattle.sheet.proofs.lines.clips.Goals as goal
 
 pub loop-k-init : goal.loop-k-init
-loop-k-init g c = (search rules, ([], (puts_none _ _, sends_none _ _ _, pass_starts _ _ _ _)))
+loop-k-init g c = ([], (puts_none _, sends_none g.O.Write.contents _, pass_starts _ _ _ _))
 
 pub loop-k-preserved : goal.loop-k-preserved
 loop-k-preserved g c =
     let l = c.loop-k in
     let a = c.args in
-    let n = c.next_clip-s.ensures in
-    let e = pass_on a.text.now a.words.now l.invariant.1.0 (cursor_of l.s.starts) a.starts.clips l.k _ (search rules) n.moved in
-    (search rules, (_, (puts_then l.invariant.1.1.0 n.puts, sends_then n.puts l.invariant.1.1.1 n.sent, e ∙ l.invariant.1.1.2)))
+    let n = c.next_clip-at.ensures in
+    let so_far = l.invariant.1 in
+    let e = pass_on a.text.now a.words.now l.invariant.0 (cursor_of l.at) a.starts.clips l._k _ (search rules) n.moved in
+    (_, (puts_then so_far.0 n.puts, sends_then g.O.Write.contents n.puts so_far.1 n.sent, e ∙ so_far.2))
 
 pub returns : goal.returns
 returns g c =
     let l = c.loop-k in
     let a = c.args in
-    let e = pass_ends a.text.now a.words.now l.invariant.1.0 (cursor_of l.s.starts) a.starts.clips l.k (search rules) in
-    record {
-      puts = puts_as (e ∙ l.invariant.1.1.2) l.invariant.1.1.0;
-      sent = sends_as (e ∙ l.invariant.1.1.2) l.invariant.1.1.1;
-    }
+    let put = l.invariant.1 in
+    let e = pass_ends a.text.now a.words.now l.invariant.0 (cursor_of l.at) a.starts.clips l._k (search rules) ∙ put.2 in
+    record { puts = puts_as e put.0; sent = sends_as g.O.Write.contents e put.1 }
