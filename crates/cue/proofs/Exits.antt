@@ -10,7 +10,8 @@ use lib.Seq.{take_all}
 use Rattle.std.proofs.Common.{length-take-le}
 use borrow.Author.Tests.{le-leb, lt-leb, leb-true, leb-false}
 use Rattle.tables.specs.Refusal.{Refusal, Answer, refused, given, laid, text_too_long}
-use Rattle.tables.specs.declared.Laid as laidᵈ
+use Rattle.std.specs.Prelude.{Result}
+use Rattle.tables.specs.declared.Refusal as refusalᵈ
 use Rattle.tables.specs.Answers.{laid_of}
 use Rattle.cue_file.specs.Format.{version1}
 use Rattle.cue_file.specs.Write.{WrittenAs, cue_write, written}
@@ -62,7 +63,7 @@ module _ (text : List ℕ) where
           too_long (take 65537 text) (omega (arith, front)) ∙ sym (too_long text long)
 
 -- ---- what the writer's call made: no file, or the one that stands at the front of its memory, which has room for it
-module _ (text t : List ℕ) (n : ℕ) (out₀ out : List ℕ) (r : laidᵈ.Laid) (w : WrittenAs text t version1 n out₀ out r) where
+module _ (text t : List ℕ) (n : ℕ) (out₀ out : List ℕ) (r : Result ℕ refusalᵈ.Refusal) (w : WrittenAs text t version1 n out₀ out r) where
   filed_answer : (answer : Answer ℕ) → laid_of r ≡ answer → words_file text t n out₀ ≡ filed answer (written text t version1 n)
   filed_answer answer e = ap (λ (x : Answer ℕ). filed x (written text t version1 n)) (sym w.answered ∙ e)
 

@@ -10,12 +10,11 @@ ghost use Rattle.cue.specs.File as rule;
 ghost use Rattle.cue.specs.Inside.Words as inside;
 
 use input::whole;
-use media::ParseAnswer;
 use printing::Failed;
 use printing::streams::Streams;
 use std::io;
 use std::io::{Read, Write};
-use tables::{Laid, Refusal, layout};
+use tables::{Refusal, layout};
 
 // The longest text that the program holds.
 const TEXT_SIZE: usize = 65_536;
@@ -54,8 +53,8 @@ fn make_file<O: Write, E: Write>(
     ensures sent { SendsAs say.old say.new O.contents E.contents (inside.words_file text.now words.now clips file.old) }
 {
     match cue_writer::write(text, words, clips, file) {
-        Laid::Refused(r) => say.refuse(r.number(), 0),
-        Laid::Given(count) => say.give(&file[..count]),
+        Err(r) => say.refuse(r.number(), 0),
+        Ok(count) => say.give(&file[..count]),
     }
 }
 
@@ -68,8 +67,8 @@ fn read_list<O: Write, E: Write>(say: &mut Streams<O, E>, text: &[u8], memory: &
         return say.refuse(Refusal::TextTooLong.number(), 0);
     }
     match media::parse_media_playlist(text, &mut memory.clips, &mut memory.tags) {
-        ParseAnswer::Refused(r, place) => say.refuse(r.number(), place),
-        ParseAnswer::Given(read) => make_file(
+        Err(r) => say.refuse(r.refusal.number(), r.place),
+        Ok(read) => make_file(
             say,
             text,
             &memory.clips,

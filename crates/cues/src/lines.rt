@@ -7,7 +7,7 @@ ghost use Rattle.cue_file.specs.Read.{next};
 ghost use Rattle.cue_reader.specs.Answers.{cursor_of};
 ghost use Rattle.cues.specs.Inside.Pass as inside;
 
-use cue_reader::all::{Cue, Cues, Step};
+use cue_reader::all::{Cue, Cues};
 use output::Output;
 use std::io::Write;
 
@@ -30,7 +30,7 @@ fn next_cue<O: Write>(out: &mut Output<O>, cues: Cues, file: &[u8]) -> Cues
     ensures sent { Sends O.contents out.old out.new (inside.step_line file.now (next version1 file.now (cursor_of cues))) }
 {
     match cues.next(file) {
-        Step::Clip(row, after) => {
+        Ok(Some((row, after))) => {
             cue(out, file, row);
             after
         }

@@ -7,7 +7,7 @@ ghost use Rattle.output.specs.Held.{behind, held};
 ghost use Rattle.printing.specs.Said.{SaidAs, SaysAs, SendsAs, Tells};
 ghost use Rattle.cues.specs.Shown as rule;
 
-use cue_reader::all::{Cues, Opened};
+use cue_reader::all::Cues;
 use input::whole;
 use printing::Failed;
 use printing::streams::Streams;
@@ -32,8 +32,8 @@ fn show_file<O: Write, E: Write>(say: &mut Streams<O, E>, file: &[u8])
         return say.refuse(Refusal::TextTooLong.number(), 0);
     }
     match Cues::new(file) {
-        Opened::Refused(r) => say.refuse(r.number(), 0),
-        Opened::Given(cues) => lines::cues(&mut say.out, file, cues),
+        Err(r) => say.refuse(r.number(), 0),
+        Ok(cues) => lines::cues(&mut say.out, file, cues),
     }
 }
 

@@ -9,6 +9,7 @@ pub fn read_all<R: Read>(from: &mut R, text: &mut [u8]) -> io::Result<usize>
     ensures bound { IfOk result (λ count. count ≤ length text.new) }
     ensures came { IfOk result (λ count. IfSome (R.remaining from.old) (λ xs. take count text.new ≡ take (length text.new) xs)) }
 {
+    // What a read brings says how far it goes on: no index is counted.
     let mut count = 0usize;
     while count < text.len() {
         match from.read(&mut text[count..]) {

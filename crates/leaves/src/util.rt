@@ -23,7 +23,7 @@ pub fn consume_line(text: &[u8], at: usize) -> IResult<Span>
     Ok((line, scan::after_tag(text, end, b"\n")))
 }
 
-// What the digits at a place write, with the place after them.
+// What the digits at a place write, with the place after them. No Result: too large is an error to some callers and a value to others, and has a place too.
 #[derive(Clone, Copy)]
 pub enum Parsed {
     NoDigits,

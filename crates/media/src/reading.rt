@@ -30,6 +30,7 @@ pub(crate) fn first_step(text: &[u8]) -> usize
 }
 
 // What a step of the first pass came to: the reading stops, or is refused, or goes on with the next counts, and perhaps with something told of the head.
+// Four ways on, by name: as a Result of an Option of counts with an Option of a tag they would be told apart by depth.
 #[derive(Clone, Copy)]
 pub enum CountStep {
     Stop,

@@ -6,7 +6,7 @@ ghost use Rattle.starts.specs.Starts.{next};
 ghost use Rattle.sheet.specs.Inside.Pass as inside;
 
 use output::Output;
-use starts::{Row, Starts, Step};
+use starts::{Row, Starts};
 use std::io::Write;
 use tables::{layout, record};
 
@@ -32,7 +32,7 @@ fn next_clip<O: Write>(out: &mut Output<O>, starts: Starts, text: &[u8], words: 
     ensures sent { Sends O.contents out.old out.new (inside.step_line text.now words.now (next words.now (cursor_of starts))) }
 {
     match starts.next(words) {
-        Step::Clip(row, after) => {
+        Ok(Some((row, after))) => {
             clip(out, text, words, row);
             after
         }

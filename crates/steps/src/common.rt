@@ -9,7 +9,7 @@ use lengths::duration;
 use lengths::duration::Extinf;
 use text::Span;
 
-// A line with its value, and the place after it.
+// A line with its value, and the place after it. No Option of the first two: `Other` is a kind of line, which goes on to the alternatives.
 #[derive(Clone, Copy)]
 pub enum Line {
     Uri(Span, usize),
@@ -17,7 +17,7 @@ pub enum Line {
     Other,
 }
 
-// The same without the values: whether an EXTINF has too many digits, and the place after the line.
+// The same without the values, and with its own `Other`: whether an EXTINF has too many digits, and the place after the line.
 #[derive(Clone, Copy)]
 pub enum LineEnd {
     Uri(usize),

@@ -6,20 +6,20 @@ use Rattle.printing.proofs.Exits.{said_refused, said_given, sends_refused, sends
 use Rattle.cue.proofs.Exits.{none_made, made, has_room}
 use Rattle.cue.proofs.make_file.Goals as goal
 
-pub returns-in-Refused : goal.returns-in-Refused
-returns-in-Refused g c =
+pub returns-in-Err : goal.returns-in-Err
+returns-in-Err g c =
     let a = c.args in
-    let why = none_made a.text.now a.words.now a.clips _ _ _ c.write.ensures _ _ (ap laid_of c.in-Refused.is) in
+    let why = none_made a.text.now a.words.now a.clips _ _ _ c.write.ensures _ _ (ap laid_of c.in-Err.is) in
     let refuse = c.refuse.ensures in
     record {
       says = said_refused _ _ 0 c.number.ensures why refuse.aside refuse.puts;
       sent = sends_refused g.O.Write.contents g.E.Write.contents _ _ 0 c.number.ensures why refuse.aside refuse.sent;
     }
 
-pub returns-in-Given : goal.returns-in-Given
-returns-in-Given g c =
+pub returns-in-Ok : goal.returns-in-Ok
+returns-in-Ok g c =
     let a = c.args in
-    let what = made a.text.now a.words.now a.clips _ _ _ c.write.ensures c.in-Given.count (ap laid_of c.in-Given.is) in
+    let what = made a.text.now a.words.now a.clips _ _ _ c.write.ensures c.in-Ok.count (ap laid_of c.in-Ok.is) in
     let give = c.give.ensures in
     record {
       says = said_given _ what give.puts give.aside;
@@ -29,7 +29,7 @@ returns-in-Given g c =
 pub slice_bounds-give-end : goal.slice_bounds-give-end
 slice_bounds-give-end g c =
     let a = c.args in
-    has_room a.text.now a.words.now a.clips _ _ _ c.write.ensures c.in-Given.count (ap laid_of c.in-Given.is)
+    has_room a.text.now a.words.now a.clips _ _ _ c.write.ensures c.in-Ok.count (ap laid_of c.in-Ok.is)
 
-pub slice_bounds-give-end-in-Given : goal.slice_bounds-give-end-in-Given
-slice_bounds-give-end-in-Given g c = sym (length-take-le _ _ (slice_bounds-give-end g c))
+pub slice_bounds-give-end-in-Ok : goal.slice_bounds-give-end-in-Ok
+slice_bounds-give-end-in-Ok g c = sym (length-take-le _ _ (slice_bounds-give-end g c))

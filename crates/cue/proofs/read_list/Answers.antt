@@ -16,25 +16,25 @@ returns-then-text-gt-TEXT_SIZE g c =
       sent = sends_refused g.O.Write.contents g.E.Write.contents _ _ 0 c.number.ensures why c.refuse.ensures.aside c.refuse.ensures.sent;
     }
 
-pub returns-in-Refused : goal.returns-in-Refused
-returns-in-Refused g c =
+pub returns-in-Err : goal.returns-in-Err
+returns-in-Err g c =
     let a = c.args in
     let l : length a.memory.now.clips ≡ clip_room = search rules in
     let m : length a.memory.now.tags ≡ tag_room = search rules in
-    let e = sym c.parse_media_playlist.ensures.answered ∙ ap parse_answer c.in-Refused.is in
+    let e = sym c.parse_media_playlist.ensures.answered ∙ ap parse_answer c.in-Err.is in
     let why = not_read a.text.now (search rules) _ _ (rw (l, m) at e) in
     record {
-      says = said_refused _ _ _ c.number-in-Refused.ensures why c.refuse-in-Refused.ensures.aside c.refuse-in-Refused.ensures.puts;
-      sent = sends_refused g.O.Write.contents g.E.Write.contents _ _ _ c.number-in-Refused.ensures why c.refuse-in-Refused.ensures.aside c.refuse-in-Refused.ensures.sent;
+      says = said_refused _ _ _ c.number-in-Err.ensures why c.refuse-in-Err.ensures.aside c.refuse-in-Err.ensures.puts;
+      sent = sends_refused g.O.Write.contents g.E.Write.contents _ _ _ c.number-in-Err.ensures why c.refuse-in-Err.ensures.aside c.refuse-in-Err.ensures.sent;
     }
 
-pub returns-in-Given : goal.returns-in-Given
-returns-in-Given g c =
+pub returns-in-Ok : goal.returns-in-Ok
+returns-in-Ok g c =
     let a = c.args in
     let l : length a.memory.now.clips ≡ clip_room = search rules in
     let m : length a.memory.now.tags ≡ tag_room = search rules in
     let o : length a.memory.now.file ≡ file_room = search rules in
-    let e = sym c.parse_media_playlist.ensures.answered ∙ ap parse_answer c.in-Given.is in
+    let e = sym c.parse_media_playlist.ensures.answered ∙ ap parse_answer c.in-Ok.is in
     let w = c.parse_media_playlist.ensures.clips_after in
-    let said = was_read a.text.now (search rules) c.in-Given.read (rw (l, m) at e) _ _ a.memory.now.file o (rw (l, m) at w) in
+    let said = was_read a.text.now (search rules) c.in-Ok.read (rw (l, m) at e) _ _ a.memory.now.file o (rw (l, m) at w) in
     record { says = rw said at c.make_file.ensures.says; sent = rw said at c.make_file.ensures.sent }

@@ -14,17 +14,17 @@ returns-then-file-gt-FILE_SIZE g c =
       sent = sends_refused g.O.Write.contents g.E.Write.contents _ _ 0 c.number.ensures why c.refuse.ensures.aside c.refuse.ensures.sent;
     }
 
-pub returns-in-Refused : goal.returns-in-Refused
-returns-in-Refused g c =
-    let why = not_taken c.args.file.now (search rules) _ 0 (sym c.new.ensures ∙ ap opened_of c.in-Refused.is) in
+pub returns-in-Err : goal.returns-in-Err
+returns-in-Err g c =
+    let why = not_taken c.args.file.now (search rules) _ 0 (sym c.new.ensures ∙ ap opened_of c.in-Err.is) in
     record {
-      says = said_refused _ _ 0 c.number-in-Refused.ensures why c.refuse-in-Refused.ensures.aside c.refuse-in-Refused.ensures.puts;
-      sent = sends_refused g.O.Write.contents g.E.Write.contents _ _ 0 c.number-in-Refused.ensures why c.refuse-in-Refused.ensures.aside c.refuse-in-Refused.ensures.sent;
+      says = said_refused _ _ 0 c.number-in-Err.ensures why c.refuse-in-Err.ensures.aside c.refuse-in-Err.ensures.puts;
+      sent = sends_refused g.O.Write.contents g.E.Write.contents _ _ 0 c.number-in-Err.ensures why c.refuse-in-Err.ensures.aside c.refuse-in-Err.ensures.sent;
     }
 
-pub returns-in-Given : goal.returns-in-Given
-returns-in-Given g c =
-    let what = was_taken c.args.file.now (search rules) _ (sym c.new.ensures ∙ ap opened_of c.in-Given.is) in
+pub returns-in-Ok : goal.returns-in-Ok
+returns-in-Ok g c =
+    let what = was_taken c.args.file.now (search rules) _ (sym c.new.ensures ∙ ap opened_of c.in-Ok.is) in
     record {
       says = said_given _ what c.cues.ensures.puts refl;
       sent = sends_given g.O.Write.contents g.E.Write.contents _ what c.cues.ensures.sent refl;

@@ -15,21 +15,21 @@ returns-then-text-gt-TEXT_SIZE g c =
     let why = ap (λ (n : ℕ). refused_line n 0) c.number.ensures ∙ too_long c.args.text.now (search rules) in
     record { puts = puts_as why c.refused.ensures.puts; sent = sends_as g.O.Write.contents why c.refused.ensures.sent }
 
-pub returns-in-Refused : goal.returns-in-Refused
-returns-in-Refused g c =
+pub returns-in-Err : goal.returns-in-Err
+returns-in-Err g c =
     let a = c.args in
     let l : length a.tables.now.clips ≡ clip_room = search rules in
     let m : length a.tables.now.tags ≡ tag_room = search rules in
-    let e = sym c.parse_media_playlist.ensures.answered ∙ ap parse_answer c.in-Refused.is in
-    let why = ap (λ (n : ℕ). refused_line n c.in-Refused.place) c.number-in-Refused.ensures ∙ not_read a.text.now (search rules) _ _ (rw (l, m) at e) in
-    record { puts = puts_as why c.refused-in-Refused.ensures.puts; sent = sends_as g.O.Write.contents why c.refused-in-Refused.ensures.sent }
+    let e = sym c.parse_media_playlist.ensures.answered ∙ ap parse_answer c.in-Err.is in
+    let why = ap (λ (n : ℕ). refused_line n c.in-Err.r.place) c.number-in-Err.ensures ∙ not_read a.text.now (search rules) _ _ (rw (l, m) at e) in
+    record { puts = puts_as why c.refused-in-Err.ensures.puts; sent = sends_as g.O.Write.contents why c.refused-in-Err.ensures.sent }
 
-pub returns-in-Given : goal.returns-in-Given
-returns-in-Given g c =
+pub returns-in-Ok : goal.returns-in-Ok
+returns-in-Ok g c =
     let a = c.args in
     let l : length a.tables.now.clips ≡ clip_room = search rules in
     let m : length a.tables.now.tags ≡ tag_room = search rules in
-    let e = sym c.parse_media_playlist.ensures.answered ∙ ap parse_answer c.in-Given.is in
+    let e = sym c.parse_media_playlist.ensures.answered ∙ ap parse_answer c.in-Ok.is in
     let w = c.parse_media_playlist.ensures.clips_after in
-    let what = was_read a.text.now (search rules) c.in-Given.read (rw (l, m) at e) _ _ (rw (l, m) at w) in
+    let what = was_read a.text.now (search rules) c.in-Ok.read (rw (l, m) at e) _ _ (rw (l, m) at w) in
     record { puts = puts_as what c.print_clips.ensures.puts; sent = sends_as g.O.Write.contents what c.print_clips.ensures.sent }
