@@ -3,7 +3,7 @@
 #![tactic(auto)]
 
 ghost use Rattle.std.specs.Prelude.{◌≡◌, ◌+◌, ◌≤◌, ◌<◌, ℕ, Bool, length, get_or};
-ghost use Rattle.text.specs.Nom.{is_digit, is_one_of, is_none_of, tagged, after_tag, run_end, span_or, is_space};
+ghost use Rattle.text.specs.Nom.{is_ascii, is_digit, is_one_of, is_none_of, tagged, after_tag, run_end, span_or, is_space};
 ghost use Rattle.text.specs.Util as util;
 ghost use Rattle.text.specs.Spans.{span_fits};
 ghost use Rattle.text.specs.Answers.{span_of, part_of};
@@ -116,6 +116,13 @@ pub fn digits_end(text: &[u8], at: usize) -> usize
     ensures { result ≡ run_end is_digit text.now at }
 {
     run_end(text, at, is_digit)
+}
+
+// The end of the run of ASCII bytes at `at`.
+pub fn ascii_end(text: &[u8], at: usize) -> usize
+    ensures { result ≡ run_end is_ascii text.now at }
+{
+    run_end(text, at, |b| b.is_ascii())
 }
 
 // The first place from `at` on whose byte is one of `set`, or where the text ends.

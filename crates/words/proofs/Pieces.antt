@@ -1,8 +1,8 @@
 -- A text in pieces of the same size: where each stands. Assumes nothing.
 use mathlib.Core.Path.{◌≡◌, refl, sym, ◌∙◌, ap}
 use mathlib.Core.List.{List}
-use Prim.Native.Nat.{ℕ, zero, suc, ◌+◌, ◌-◌, ◌*◌, ◌<◌}
-use native.Mathlib.Nat.{le_of_suc-le-suc, not-suc-le-zero}
+use Prim.Native.Nat.{ℕ, zero, suc, ◌+◌, ◌-◌, ◌*◌, ◌/◌, ◌≤◌, ◌<◌}
+use native.Mathlib.Nat.{div-add-mod', le_of_suc-le-suc, not-suc-le-zero}
 use native.Mathlib.Omega.{arith}
 use lib.ListN.{length, take, drop, get_or, length-drop}
 use lib.Seq.{drop-drop, take-length}
@@ -21,3 +21,16 @@ pub piece_at : {X : Type 0} (n c k at : ℕ) (text : List X) (d : List X) → k 
 piece_at n c k at text d h =
     let rest : take (length text - at) (drop at text) ≡ drop at text = ap (λ (m : ℕ). take m (drop at text)) (sym (length-drop at text)) ∙ take-length (drop at text) in
     rw rest (piece n c k (drop at text) d h ∙ ap (take n) (drop-drop (n * k) at text))
+
+-- .. and where it ends
+module _ (n at k : ℕ) where
+  pub piece_within : (rest size : ℕ) → k < rest / n → at + rest ≤ size → at + n * k + n ≤ size
+  piece_within rest size h l =
+      let more : n * (rest / n) ≡ n * k + n + n * (rest / n - (k + 1)) = ap (λ (q : ℕ). n * q) split ∙ omega arith in
+      omega (arith, more, div-add-mod' rest n)
+    where
+      split : rest / n ≡ k + 1 + (rest / n - (k + 1))
+      split = omega arith
+
+  pub piece_end : at + n * k + n ≡ at + n * (k + 1)
+  piece_end = omega arith

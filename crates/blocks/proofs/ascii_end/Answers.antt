@@ -1,24 +1,9 @@
--- Nothing is there, or no ASCII; else the run goes on past the blocks, and from place to place in the loop. Assumes nothing.
-use mathlib.Core.Path.{sym, ◌∙◌}
-use borrow.Author.Tests.{le-leb, lt-leb}
+-- `blocks::ascii_end`: a byte that is no ASCII ends the run at once. Assumes nothing.
+use Rattle.std.proofs.Common.{sym}
+use borrow.Author.Tests.{lt-leb}
 use Rattle.text.specs.Nom.{is_ascii}
-use Rattle.text.proofs.Laws.{run_out, run_stop, run_step}
+use Rattle.blocks.proofs.Blocks.{run_none}
 use Rattle.blocks.proofs.ascii_end.Goals as goal
 
-pub returns-then-text-at : goal.returns-then-text-at
-returns-then-text-at c = sym (run_out _ _ _ c.if-text-at.true)
-
-pub returns-then-text-at-gt-LAST_ASCII : goal.returns-then-text-at-gt-LAST_ASCII
-returns-then-text-at-gt-LAST_ASCII c = sym (run_stop is_ascii _ _ c.if-text-at.false (lt-leb _ _ c.if-text-at-gt-LAST_ASCII.true))
-
-pub loop-i-init : goal.loop-i-init
-loop-i-init c = c.ascii_blocks_end-i.ensures
-
-pub returns-then-text-i-gt-LAST_ASCII : goal.returns-then-text-i-gt-LAST_ASCII
-returns-then-text-i-gt-LAST_ASCII c = sym (c.loop-i.invariant ∙ run_stop is_ascii _ _ c.loop-i-test.true (lt-leb _ _ c.if-text-i-gt-LAST_ASCII.true))
-
-pub loop-i-preserved : goal.loop-i-preserved
-loop-i-preserved c = c.loop-i.invariant ∙ run_step is_ascii _ _ c.loop-i-test.true (le-leb _ _ c.if-text-i-gt-LAST_ASCII.false)
-
-pub returns : goal.returns
-returns c = sym (c.loop-i.invariant ∙ run_out _ _ _ c.loop-i-test.false)
+pub returns-then-byte_at-gt-LAST_ASCII : goal.returns-then-byte_at-gt-LAST_ASCII
+returns-then-byte_at-gt-LAST_ASCII c = sym (run_none is_ascii _ _ _ c.byte_at.ensures (lt-leb _ _ c.if-byte_at-gt-LAST_ASCII.true))
