@@ -43,10 +43,8 @@ fn same_bytes(text: &[u8], at: usize, tag: &[u8]) -> bool
     ensures { result ≡ tagged tag.now text.now at }
 {
     let mut same = true;
-    let mut k: usize = 0;
-    while k < tag.len() {
+    for k in 0..tag.len() {
         same = same & (text[at + k] == tag[k]);
-        k += 1;
     }
     same
 }
