@@ -19,8 +19,6 @@ use borrow.Author.Tests.{eqb-true, eqb-false, ne_eqb, ltb-false}
 use Rattle.std.specs.Int.{bytes_low_first, byte_at, from_le_bytes}
 use Rattle.std.proofs.lemmas.Nat.{le_bytes_8}
 use Rattle.std.proofs.Common.{w64}
-use Rattle.std.specs.Simd.{first_chunks}
-use Rattle.words.proofs.Pieces.{piece_at}
 use Rattle.text.specs.Nom.{bytes, is_none_of, run_end}
 use Rattle.words.specs.Inside.Word.{bytes_of, mark, mark_of, Unmarked}
 use Rattle.text.proofs.Laws.{and_left, and_right}
@@ -46,29 +44,24 @@ low_bytes (suc n) i w = cc (byte i, ap (bytes_of n) (div-div-eq-div-mul w (256 ^
     byte zero = ap (λ (x : ℕ). x % 256) (div-one w)
     byte (suc i) = refl
 
--- a word that is read of eight bytes has these bytes
-read_word : (bs : List ℕ) (w : ℕ) → length bs ≡ 8 → ((i : ℕ) → get_or bs i 0 < 256) → w ≡ from_le_bytes w64 bs → bytes_of 8 w ≡ bs
-read_word bs w l small e = ap (bytes_of 8) (sym (div-one w)) ∙ low_bytes 8 0 w ∙ le_bytes_8 bs w l small e
-
 -- a word holds the bytes of the text at its place
 abbrev pub Holds : List ℕ → ℕ → ℕ → Type 0
 Holds text w i = bytes_of 8 w ≡ take 8 (drop i text)
 
--- so does the k-th of the words that are read of the text from a place on
-pub read_at : (text : List ℕ) (at k c w : ℕ) (words : List (List ℕ)) → ((i : ℕ) → get_or text i 0 < 256) → words ≡ first_chunks 8 c (take (length text - at) (drop at text)) → k < c → at + 8 * k + 8 ≤ length text
-    → w ≡ from_le_bytes w64 (get_or words k []) → Holds text w (at + 8 * k)
-read_at text at k c w words small cut h m e =
-    let bs = take 8 (drop (at + 8 * k) text) in
-    let part : get_or words k [] ≡ bs = ap (λ ws. get_or ws k []) cut ∙ piece_at 8 c k at text [] h in
-    let len : length bs ≡ 8 = omega (arith, length-take 8 (drop (at + 8 * k) text), length-drop (at + 8 * k) text) in
-    read_word bs w len byte (e ∙ ap (from_le_bytes w64) part)
+-- as one does that is read of these bytes
+pub read_word : (text : List ℕ) (i w : ℕ) (bs : List ℕ) → ((j : ℕ) → get_or text j 0 < 256) → i + 8 ≤ length text → bs ≡ take (i + 8 - i) (drop i text) → w ≡ from_le_bytes w64 bs → Holds text w i
+read_word text i w bs small h f e =
+    let eight : i + 8 - i ≡ 8 = omega arith in
+    let part : bs ≡ take 8 (drop i text) = f ∙ ap (λ (n : ℕ). take n (drop i text)) eight in
+    let len : length (take 8 (drop i text)) ≡ 8 = omega (arith, length-take 8 (drop i text), length-drop i text) in
+    ap (bytes_of 8) (sym (div-one w)) ∙ low_bytes 8 0 w ∙ le_bytes_8 (take 8 (drop i text)) w len byte (e ∙ ap (from_le_bytes w64) part)
   where
-    byte : (i : ℕ) → get_or (take 8 (drop (at + 8 * k) text)) i 0 < 256
-    byte i = go (dec_le 8 i)
+    byte : (j : ℕ) → get_or (take 8 (drop i text)) j 0 < 256
+    byte j = go (dec_le 8 j)
       where
-        go : Dec (8 ≤ i) → get_or (take 8 (drop (at + 8 * k) text)) i 0 < 256
-        go (yes l) = rw (get_or-eq_default (take 8 (drop (at + 8 * k) text)) 0 {n = i} (omega (arith, length-take 8 (drop (at + 8 * k) text)))) (lit< tt)
-        go (no l) = rw (get_or-take 8 (drop (at + 8 * k) text) i 0 (omega arith), get_or-drop (at + 8 * k) text i 0) (small (at + 8 * k + i))
+        go : Dec (8 ≤ j) → get_or (take 8 (drop i text)) j 0 < 256
+        go (yes l) = rw (get_or-eq_default (take 8 (drop i text)) 0 {n = j} (omega (arith, length-take 8 (drop i text)))) (lit< tt)
+        go (no l) = rw (get_or-take 8 (drop i text) j 0 (omega arith), get_or-drop i text j 0) (small (i + j))
 
 -- ---- the marks of n bytes at once
 -- n times the same byte

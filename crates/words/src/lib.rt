@@ -1,13 +1,21 @@
 // Eight bytes of a text at once, as one number: where among them the first stands that may end a line, or that is one of a few.
 #![tactic(auto)]
 
-ghost use Rattle.std.specs.Prelude.{◌≡◌, Bool, map, ℕ, ◌^◌, ◌<◌};
+ghost use Rattle.std.specs.Prelude.{◌≡◌, Bool, map, ℕ, ◌+◌, ◌^◌, ◌≤◌, ◌<◌, length, take, drop};
 ghost use Rattle.text.specs.Nom.{bytes, is_none_of, run_end};
 ghost use Rattle.words.specs.Inside.Word.{bytes_of, mark, mark_of, Unmarked};
 
 const WORD: usize = 8;
 
 const BITS_IN_BYTE: u32 = 8;
+
+// The eight bytes at `at`, the first of them the lowest.
+fn word_at(text: &[u8], at: usize) -> u64
+    requires { at + 8 ≤ length text.now }
+    ensures { bytes_of 8 result ≡ take 8 (drop at text.now) }
+{
+    u64::from_le_bytes(<[u8; WORD]>::try_from(&text[at..at + WORD]).unwrap())
+}
 
 // In each byte: its highest bit; the others; and what takes the first byte above CR (0x0E), and each byte above it, to the highest bit.
 const TOP_BITS: u64 = 0x8080_8080_8080_8080;
@@ -29,17 +37,19 @@ fn unmarked_end<F: Fn(u64) -> u64>(text: &[u8], at: usize, marks: F) -> usize
     requires { F.IsAlwaysCallable marks }
     ensures { (p : ℕ → Bool) → ((word found : ℕ) → word < 2 ^ 64 → F.post marks word found → Unmarked p word found) → run_end p text.now at ≡ run_end p text.now result }
 {
-    if text.len() < at {
+    if text.len() < WORD {
         return at;
     }
-    let (words, _) = text[at..].as_chunks::<WORD>();
-    for (k, word) in words.iter().enumerate() {
-        let found = marks(u64::from_le_bytes(*word));
+    let last = text.len() - WORD;
+    let mut i = at;
+    while i <= last {
+        let found = marks(word_at(text, i));
         if found != 0 {
-            return at + WORD * k + (u64::trailing_zeros(found) / BITS_IN_BYTE) as usize;
+            return i + (u64::trailing_zeros(found) / BITS_IN_BYTE) as usize;
         }
+        i += WORD;
     }
-    at + WORD * words.len()
+    i
 }
 
 // Past the bytes above CR from `at` on, as far as whole words go.

@@ -1,5 +1,5 @@
 -- `scan::run_end`: the run from here is the run from the start. Assumes nothing.
-use Rattle.std.proofs.Common.{◌≡◌, sym, ◌∙◌, ap, not, arith, ◌≤◌, ℕ, length, max}
+use Rattle.std.proofs.Common.{◌≡◌, sym, ◌∙◌, arith, ◌≤◌, length, max}
 use native.Mathlib.Decide.{dec_le}
 use Rattle.text.specs.Nom.{run_end}
 use Rattle.text.proofs.Laws.{run_out, run_stop, run_step}
