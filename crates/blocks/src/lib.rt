@@ -8,7 +8,6 @@ ghost use Rattle.std.specs.Fn.{FnReturnsAt};
 ghost use Rattle.text.specs.Nom.{bytes, is_ascii, is_digit, is_one_of, is_none_of, run_end, is_multispace};
 
 // Past the blocks of `size` bytes from `at` on that pass a test.
-#[inline(always)]
 fn passed_end<F: Fn(&[u8]) -> bool>(text: &[u8], at: usize, size: usize, passes: F) -> usize
     requires some { 0 < size }
     requires test { F.IsAlwaysCallable passes }
@@ -68,21 +67,22 @@ const ASCII_BLOCK: usize = 64;
 
 const LAST_ASCII: u8 = 0x7F;
 
-// Past the blocks of ASCII bytes from `at` on: it never goes back.
+// Past the blocks of ASCII bytes from `at` on: it never goes back. In other alphabets most runs of them are empty, and the first byte tells so at once, where
+// the call stands.
 #[inline(always)]
 pub fn ascii_blocks(text: &[u8], at: usize) -> usize
     ensures { (at ≤ result) × (run_end is_ascii text.now at ≡ run_end is_ascii text.now result) }
 {
-    passed_end(text, at, ASCII_BLOCK, |block| all_within(block, 0x00, LAST_ASCII))
-}
-
-// Past ASCII bytes. In other alphabets most runs of them are empty, and the first byte tells so at once.
-pub fn ascii_end(text: &[u8], at: usize) -> usize
-    ensures { result ≡ run_end is_ascii text.now at }
-{
     if LAST_ASCII < scan::byte_at(text, at, 0) {
         return at;
     }
+    passed_end(text, at, ASCII_BLOCK, |block| all_within(block, 0x00, LAST_ASCII))
+}
+
+// Past ASCII bytes.
+pub fn ascii_end(text: &[u8], at: usize) -> usize
+    ensures { result ≡ run_end is_ascii text.now at }
+{
     scan::ascii_end(text, ascii_blocks(text, at))
 }
 
