@@ -1,97 +1,90 @@
--- Laws of blocks: what the tests of their bytes tell, byte by byte, and so of the runs that they are part of. Assumes nothing.
-use mathlib.Core.Path.{◌≡◌, refl, sym, ◌∙◌}
+-- Laws of blocks: what a test of all their bytes tells of each of them, and so of the runs that they are part of. Assumes nothing.
+use mathlib.Core.Path.{◌≡◌, refl, sym, ◌∙◌, ap}
 use mathlib.Core.Bool.{Bool, true, false, not, ◌&&◌, ◌||◌}
 use mathlib.Core.List.{List, [], ◌∷◌}
-use Prim.Native.Nat.{ℕ, ◌+◌, ◌≤◌, ◌<◌}
+use Prim.Native.Nat.{ℕ, zero, suc, ◌+◌, ◌-◌, ◌*◌, ◌≤◌, ◌<◌}
+use native.Mathlib.Nat.{add-zero, le_of_suc-le-suc, not-suc-le-zero}
 use native.Mathlib.Decide.{dec_le}
 use native.Mathlib.Omega.{arith}
 use lib.Dec.{leb, eqb}
-use borrow.Author.Tests.{ne_eqb, leb-true, le-leb}
-use lib.ListN.{length, get_or}
-use Rattle.text.specs.Nom.{bytes, is_ascii, is_digit, is_one_of, is_none_of, run_end}
+use lib.ListN.{length, get_or, take, drop, length-drop, length-take}
+use lib.Seq.{get_or-take, get_or-drop, take-length}
+use borrow.Author.Tests.{ne_eqb, leb-true}
+use Rattle.std.specs.List.{list_all, list_any}
+use Rattle.std.proofs.lemmas.List.Folds.{list_all_more, list_any_more}
+use Rattle.text.specs.Nom.{bytes, is_digit, is_one_of, is_none_of, run_end}
 use Rattle.text.proofs.Laws.{and_left, and_right, or_false, run_out, run_stop}
-use Rattle.text.proofs.Stretches.{All, Passes, more, run_on}
+use Rattle.text.proofs.Stretches.{run_on}
+use Rattle.scan.proofs.Sets.{any}
+use Rattle.words.proofs.Eight.{none_of_all}
 
--- a byte from lo to hi
-abbrev pub Within : ℕ → ℕ → List ℕ → ℕ → Type 0
-Within lo hi text j = (lo ≤ get_or text j 0) × (get_or text j 0 ≤ hi)
+-- ---- all elements of a list
+module _ {X : Type 0} (p : X → Bool) where
+  pub all_at : (xs : List X) (i : ℕ) (d : X) → list_all p xs ≡ true → i < length xs → p (get_or xs i d) ≡ true
+  all_at [] i d e h = absurd (not-suc-le-zero h)
+  all_at (x ∷ xs) zero d e h = and_left (p x) _ e
+  all_at (x ∷ xs) (suc i) d e h = all_at xs i d (and_right (p x) _ e) (le_of_suc-le-suc h)
 
--- .. that is there
-abbrev pub There : ℕ → ℕ → List ℕ → ℕ → Type 0
-There lo hi text j = (j < length text) × Within lo hi text j
+  -- a test that asks less
+  pub all_less : (q : X → Bool) → ((x : X) → p x ≡ true → q x ≡ true) → (xs : List X) → list_all p xs ≡ true → list_all q xs ≡ true
+  all_less q h [] e = refl
+  all_less q h (x ∷ xs) e = rw (h x (and_left (p x) _ e), all_less q h xs (and_right (p x) _ e))
 
--- a byte that is not x
-abbrev pub Lacks : ℕ → List ℕ → ℕ → Type 0
-Lacks x text j = eqb x (get_or text j 0) ≡ false
+-- one more element is looked at
+pub all_on : {X : Type 0} (p : X → Bool) (xs : List X) (i : ℕ) (d : X) (b : Bool) → i < length xs → b ≡ list_all p (take i xs) → (b && p (get_or xs i d)) ≡ list_all p (take (i + 1) xs)
+all_on p xs i d b h e = ap (λ c. c && p (get_or xs i d)) e ∙ sym (list_all_more p xs i d h)
 
--- four tests, joined from the left, as a set of four joins them
-or_four : (b c d e : Bool) → (b || (c || (d || (e || false)))) ≡ (((b || c) || d) || e)
-or_four true c d e = refl
-or_four false true d e = refl
-or_four false false true e = refl
-or_four false false false e = or_false e
+pub all_out : {X : Type 0} (p : X → Bool) (xs : List X) (i : ℕ) (b : Bool) → length xs ≡ i → b ≡ list_all p (take i xs) → b ≡ list_all p xs
+all_out p xs i b h e = e ∙ ap (list_all p) (ap (λ (k : ℕ). take k xs) (sym h) ∙ take-length xs)
 
-not_true : (b : Bool) → not b ≡ true → b ≡ false
-not_true true e = sym e
-not_true false e = refl
+-- one more byte of a set is tried
+pub one_on : (x : ℕ) (set : List ℕ) (i : ℕ) (b : Bool) → i < length set → b ≡ is_one_of (take i set) x → (b || eqb (get_or set i 0) x) ≡ is_one_of (take (i + 1) set) x
+one_on x set i b h e =
+    ap (λ c. c || eqb (get_or set i 0) x) (e ∙ sym (any (take i set) x)) ∙ sym (list_any_more (λ y. eqb y x) set i 0 h) ∙ any (take (i + 1) set) x
 
--- one more byte is tested
-module _ (text : List ℕ) (a b : ℕ) (w : Bool) where
-  pub within_on : (lo hi : ℕ) → (w ≡ true → All (Within lo hi text) a b) → ((w && leb lo (get_or text b 0)) && leb (get_or text b 0) hi) ≡ true → All (Within lo hi text) a (b + 1)
-  within_on lo hi h e =
-      let first = and_left (w && leb lo (get_or text b 0)) (leb (get_or text b 0) hi) e in
-      more (Within lo hi text) a b (h (and_left w _ first)) (leb-true _ _ (and_right w _ first), leb-true _ _ (and_right (w && leb lo (get_or text b 0)) _ e))
+pub one_out : (x : ℕ) (set : List ℕ) (i : ℕ) (b : Bool) → length set ≡ i → b ≡ is_one_of (take i set) x → b ≡ is_one_of set x
+one_out x set i b h e = e ∙ ap (λ s. is_one_of s x) (ap (λ (k : ℕ). take k set) (sym h) ∙ take-length set)
 
-  pub one_of_on : (s t u v : ℕ) → (w ≡ true → All (Passes (is_one_of (s ∷ t ∷ u ∷ v ∷ [])) text) a b)
-      → (w && (((eqb s (get_or text b 0) || eqb t (get_or text b 0)) || eqb u (get_or text b 0)) || eqb v (get_or text b 0))) ≡ true → All (Passes (is_one_of (s ∷ t ∷ u ∷ v ∷ [])) text) a (b + 1)
-  one_of_on s t u v h e =
-      let x = get_or text b 0 in
-      more (Passes (is_one_of (s ∷ t ∷ u ∷ v ∷ [])) text) a b (h (and_left w _ e)) (or_four (eqb s x) (eqb t x) (eqb u x) (eqb v x) ∙ and_right w _ e)
-
-  pub lacks_on : (x : ℕ) → (w ≡ true → All (Lacks x text) a b) → (w && not (eqb x (get_or text b 0))) ≡ true → All (Lacks x text) a (b + 1)
-  lacks_on x h e = more (Lacks x text) a b (h (and_left w _ e)) (not_true (eqb x (get_or text b 0)) (and_right w _ e))
-
--- a byte that is none of four, each looked for apart
-pub lacks_four : (text : List ℕ) (s t u v j : ℕ) → Lacks s text j → Lacks t text j → Lacks u text j → Lacks v text j → Passes (is_none_of (s ∷ t ∷ u ∷ v ∷ [])) text j
-lacks_four text s t u v j e f g h = rw (e, f, g, h)
-
-module _ (text : List ℕ) (a b : ℕ) (m : a ≤ b) where
-  -- a line goes on past bytes above CR
-  pub line_on : All (λ j. (j < length text) × (14 ≤ get_or text j 0)) a b → run_end (is_none_of (bytes "\r\n")) text a ≡ run_end (is_none_of (bytes "\r\n")) text b
-  line_on h = run_on (is_none_of (bytes "\r\n")) text a b m (λ j n l. ((h j n l).0, above (get_or text j 0) (h j n l).1))
-    where
-      above : (x : ℕ) → 14 ≤ x → is_none_of (bytes "\r\n") x ≡ true
-      above x k = rw (ne_eqb 13 x (λ e. omega arith), ne_eqb 10 x (λ e. omega arith))
-
-  -- ASCII past bytes below 0x80
-  pub ascii_on : All (There 0 0x7F text) a b → run_end is_ascii text a ≡ run_end is_ascii text b
-  ascii_on h = run_on is_ascii text a b m (λ j n l. ((h j n l).0, le-leb (get_or text j 0) 0x7F (h j n l).1.1))
-
-  -- digits past bytes from `0` to `9`
-  pub digits_on : All (There 48 57 text) a b → run_end is_digit text a ≡ run_end is_digit text b
-  unfolding is_digit
-  digits_on h = run_on is_digit text a b m (λ j n l. ((h j n l).0, rw (le-leb 48 (get_or text j 0) (h j n l).1.0, le-leb (get_or text j 0) 57 (h j n l).1.1)))
-
--- one of two, each looked for apart
-or_two : (b c : Bool) → (b || (c || false)) ≡ (b || c)
-or_two true c = refl
-or_two false c = or_false c
-
-pub one_of_two : (s t x : ℕ) → is_one_of (s ∷ t ∷ []) x ≡ (eqb s x || eqb t x)
-one_of_two s t x = or_two (eqb s x) (eqb t x)
-
--- a set of two that repeats its byte is the smaller set
-pub same_byte : (a x : ℕ) → is_one_of (a ∷ a ∷ []) x ≡ is_one_of (a ∷ []) x
-same_byte a x = go (eqb a x)
+-- bytes among which none of a set is, each looked for apart
+pub none_all : (set block : List ℕ) → ((j : ℕ) → j < length set → list_all (λ x. not (eqb (get_or set j 0) x)) block ≡ true) → list_all (is_none_of set) block ≡ true
+none_all set [] h = refl
+none_all set (x ∷ block) h =
+    rw (
+      none_of_all set x (λ j n l. not_true (eqb (get_or set j 0) x) (and_left (not (eqb (get_or set j 0) x)) _ (h j l))),
+      none_all set block (λ j l. and_right (not (eqb (get_or set j 0) x)) _ (h j l)),
+    )
   where
-    go : (b : Bool) → (b || (b || false)) ≡ (b || false)
-    go true = refl
-    go false = refl
+    not_true : (b : Bool) → not b ≡ true → b ≡ false
+    not_true true e = sym e
+    not_true false e = refl
+
+-- ---- a run goes on past a block that passes
+pub run_past : (p : ℕ → Bool) (text : List ℕ) (a n : ℕ) → a + n ≤ length text → list_all p (take (a + n - a) (drop a text)) ≡ true → run_end p text a ≡ run_end p text (a + n)
+run_past p text a n h e = run_on p text a (a + n) (omega arith) (λ j m l. (omega arith, at j m l))
+  where
+    whole : a + n - a ≡ n
+    whole = omega arith
+
+    all : list_all p (take n (drop a text)) ≡ true
+    all = ap (λ (k : ℕ). list_all p (take k (drop a text))) (sym whole) ∙ e
+
+    at : (j : ℕ) → a ≤ j → j < a + n → p (get_or text j 0) ≡ true
+    at j m l =
+        let len : n ≤ length (drop a text) = omega (arith, length-drop a text) in
+        let z : a + (j - a) ≡ j = omega arith in
+        let byte : get_or (take n (drop a text)) (j - a) 0 ≡ get_or text j 0 =
+        get_or-take n (drop a text) (j - a) 0 (omega arith) ∙ get_or-drop a text (j - a) 0 ∙ ap (λ i. get_or text i 0) z in
+        ap p (sym byte) ∙ all_at p (take n (drop a text)) (j - a) 0 all (omega (arith, length-take n (drop a text), len))
+
+-- ---- what the tests of a block's bytes ask
+-- a byte above CR ends no line
+pub above_cr : (x : ℕ) → (leb 14 x && leb x 255) ≡ true → is_none_of (bytes "\r\n") x ≡ true
+above_cr x e = let l = leb-true 14 x (and_left (leb 14 x) _ e) in rw (ne_eqb 13 x (λ q. omega (arith, l)), ne_eqb 10 x (λ q. omega (arith, l)))
 
 -- a run is empty where a byte stands that fails its test, or none
-pub run_none : (p : ℕ → Bool) (text : List ℕ) (at : ℕ) → p (get_or text at 0) ≡ false → run_end p text at ≡ at
-run_none p text at e = go (dec_le (length text) at)
+pub run_none : (p : ℕ → Bool) (text : List ℕ) (at b : ℕ) → b ≡ get_or text (at + 0) 0 → p b ≡ false → run_end p text at ≡ at
+run_none p text at b f e = go (dec_le (length text) at)
   where
     go : Dec (length text ≤ at) → run_end p text at ≡ at
     go (yes h) = run_out p text at h
-    go (no h) = run_stop p text at (omega arith) e
+    go (no h) = run_stop p text at (omega arith) (ap p (ap (λ i. get_or text i 0) (sym (add-zero at)) ∙ sym f) ∙ e)

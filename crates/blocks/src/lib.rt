@@ -2,30 +2,17 @@
 // goes on byte by byte, so that each answer is the rule's own.
 #![tactic(auto)]
 
-ghost use Rattle.std.specs.Prelude.{◌≡◌, true, [], ◌∷◌, ℕ, ◌+◌, ◌≤◌, ◌<◌, length, get_or};
+ghost use Rattle.std.specs.Prelude.{◌≡◌, true, ℕ, Bool, List, ◌&&◌, not, leb, eqb, ◌≤◌, ◌<◌};
+ghost use Rattle.std.specs.List.{list_all};
+ghost use Rattle.std.specs.Fn.{FnReturnsAt};
 ghost use Rattle.text.specs.Nom.{bytes, is_ascii, is_digit, is_one_of, is_none_of, run_end, is_multispace};
 
-// Whether each of the `size` bytes at `at` is one from `lo` to `hi`. All of them are looked at, with no way out before the last,
-// so that the compiler takes many at once.
-fn block_within(text: &[u8], at: usize, size: usize, lo: u8, hi: u8) -> bool
-    requires { at + size ≤ length text.now }
-    ensures { result ≡ true → (j : ℕ) → at ≤ j → j < at + size → (lo ≤ get_or text.now j 0) × (get_or text.now j 0 ≤ hi) }
-{
-    let mut within = true;
-    let mut k: usize = 0;
-    while k < size {
-        let i = at + k;
-        let b = text[i];
-        within = within & (lo <= b) & (b <= hi);
-        k += 1;
-    }
-    within
-}
-
-// Past the blocks of `size` bytes from `at` on whose bytes are from `lo` to `hi`.
-fn within_end(text: &[u8], at: usize, size: usize, lo: u8, hi: u8) -> usize
-    requires { 0 < size }
-    ensures { (at ≤ result) × ((j : ℕ) → at ≤ j → j < result → (j < length text.now) × ((lo ≤ get_or text.now j 0) × (get_or text.now j 0 ≤ hi))) }
+// Past the blocks of `size` bytes from `at` on that pass a test.
+fn passed_end<F: Fn(&[u8]) -> bool>(text: &[u8], at: usize, size: usize, passes: F) -> usize
+    requires some { 0 < size }
+    requires test { F.IsAlwaysCallable passes }
+    ensures on { at ≤ result }
+    ensures run { (p : ℕ → Bool) → ((block : List ℕ) → FnReturnsAt F.Fn passes block true → list_all p block ≡ true) → run_end p text.now at ≡ run_end p text.now result }
 {
     if text.len() < size {
         return at;
@@ -33,13 +20,24 @@ fn within_end(text: &[u8], at: usize, size: usize, lo: u8, hi: u8) -> usize
     let last = text.len() - size;
     let mut i = at;
     while i <= last {
-        if block_within(text, i, size, lo, hi) {
-            i += size;
-        } else {
+        if !passes(&text[i..i + size]) {
             return i;
         }
+        i += size;
     }
     i
+}
+
+// Whether each byte of a block is one from `lo` to `hi`. All of them are looked at, with no way out before the last, so that the compiler takes many
+// at once.
+fn all_within(block: &[u8], lo: u8, hi: u8) -> bool
+    ensures { result ≡ list_all (λ x. leb lo x && leb x hi) block.now }
+{
+    let mut within = true;
+    for x in block {
+        within = within & ((lo <= *x) & (*x <= hi));
+    }
+    within
 }
 
 // How many bytes of a line are looked at in one go.
@@ -52,7 +50,7 @@ const ABOVE_CR: u8 = 0x0E;
 fn line_blocks_end(text: &[u8], at: usize) -> usize
     ensures { run_end (is_none_of (bytes "\r\n")) text.now at ≡ run_end (is_none_of (bytes "\r\n")) text.now result }
 {
-    within_end(text, at, LINE_BLOCK, ABOVE_CR, 0xFF)
+    passed_end(text, at, LINE_BLOCK, |block| all_within(block, ABOVE_CR, 0xFF))
 }
 
 // The end of the line at `at`: the first CR or LF from there on, or where the text ends.
@@ -61,7 +59,7 @@ pub fn line_end(text: &[u8], at: usize) -> usize
 {
     let blocks = line_blocks_end(text, at);
     let words = words::above_cr_end(text, blocks);
-    scan::until_two(text, words, b'\r', b'\n')
+    scan::until(text, words, b"\r\n")
 }
 
 // How many ASCII bytes are passed in one go.
@@ -69,235 +67,151 @@ const ASCII_BLOCK: usize = 64;
 
 const LAST_ASCII: u8 = 0x7F;
 
-// Past the blocks of ASCII bytes from `at` on.
-fn ascii_blocks_end(text: &[u8], at: usize) -> usize
-    ensures { run_end is_ascii text.now at ≡ run_end is_ascii text.now result }
-{
-    within_end(text, at, ASCII_BLOCK, 0x00, LAST_ASCII)
-}
-
-// The same for crates that go on by blocks of their own: it never goes back.
+// Past the blocks of ASCII bytes from `at` on: it never goes back. In other alphabets most runs of them are empty, and the first byte tells so at once, where
+// the call stands.
+#[inline(always)]
 pub fn ascii_blocks(text: &[u8], at: usize) -> usize
     ensures { (at ≤ result) × (run_end is_ascii text.now at ≡ run_end is_ascii text.now result) }
 {
-    within_end(text, at, ASCII_BLOCK, 0x00, LAST_ASCII)
+    if LAST_ASCII < scan::byte_at(text, at, 0) {
+        return at;
+    }
+    passed_end(text, at, ASCII_BLOCK, |block| all_within(block, 0x00, LAST_ASCII))
 }
 
-// Past ASCII bytes. In other alphabets most runs of them are empty, and the first byte tells so at once.
+// Past ASCII bytes.
 pub fn ascii_end(text: &[u8], at: usize) -> usize
     ensures { result ≡ run_end is_ascii text.now at }
 {
-    if text.len() <= at {
-        return at;
-    }
-    if LAST_ASCII < text[at] {
-        return at;
-    }
-    let mut i = ascii_blocks_end(text, at);
-    while i < text.len() {
-        if LAST_ASCII < text[i] {
-            return i;
-        }
-        i += 1;
-    }
-    i
+    scan::ascii_end(text, ascii_blocks(text, at))
 }
 
 // How many bytes are looked at in one go for a set of bytes. With fewer the compiler lays them out one by one before it knows the set.
 const SET_BLOCK: usize = 32;
 
-// Whether none of the `size` bytes at `at` is one of four. Each of the four is looked for apart: of one test for all of them the compiler would make
-// a table of bits, byte by byte.
-fn block_none_of(text: &[u8], at: usize, size: usize, a: u8, b: u8, c: u8, d: u8) -> bool
-    requires { at + size ≤ length text.now }
-    ensures { result ≡ true → (j : ℕ) → at ≤ j → j < at + size → is_none_of (a ∷ b ∷ c ∷ d ∷ []) (get_or text.now j 0) ≡ true }
+// Whether no byte of a block is `b`.
+#[inline(always)]
+fn lacks(block: &[u8], b: u8) -> bool
+    ensures { result ≡ list_all (λ x. not (eqb b x)) block.now }
 {
-    let mut no_a = true;
-    let mut no_b = true;
-    let mut no_c = true;
-    let mut no_d = true;
-    let mut k: usize = 0;
-    while k < size {
-        let i = at + k;
-        let x = text[i];
-        no_a = no_a & (a != x);
-        no_b = no_b & (b != x);
-        no_c = no_c & (c != x);
-        no_d = no_d & (d != x);
-        k += 1;
+    let mut lacks = true;
+    for x in block {
+        lacks = lacks & (b != *x);
     }
-    no_a & no_b & no_c & no_d
+    lacks
 }
 
-// Past the blocks from `at` on that have none of four bytes.
-fn none_of_end(text: &[u8], at: usize, a: u8, b: u8, c: u8, d: u8) -> usize
-    ensures { run_end (is_none_of (a ∷ b ∷ c ∷ d ∷ [])) text.now at ≡ run_end (is_none_of (a ∷ b ∷ c ∷ d ∷ [])) text.now result }
+// Whether no byte of a block is one of `set`. Each of these is looked for apart: of one test for all of them the compiler would make a table of bits, byte
+// by byte.
+fn none_of<const N: usize>(block: &[u8], set: &[u8; N]) -> bool
+    ensures { result ≡ true → list_all (is_none_of set.now) block.now ≡ true }
 {
-    if text.len() < SET_BLOCK {
-        return at;
+    let mut none = true;
+    for b in set {
+        none = none & lacks(block, *b);
     }
-    let last = text.len() - SET_BLOCK;
-    let mut i = at;
-    while i <= last {
-        if block_none_of(text, i, SET_BLOCK, a, b, c, d) {
-            i += SET_BLOCK;
-        } else {
-            return i;
-        }
-    }
-    i
+    none
 }
 
-// The first place from `at` on whose byte is one of four, or where the text ends: by blocks, then by words, then byte by byte.
-fn until_far(text: &[u8], at: usize, a: u8, b: u8, c: u8, d: u8) -> usize
-    ensures { result ≡ run_end (is_none_of (a ∷ b ∷ c ∷ d ∷ [])) text.now at }
+// The first place from `at` on whose byte is one of `set`, or where the text ends, for bytes that are far away as a rule: by blocks, then by words, then byte
+// by byte.
+#[inline(never)]
+pub fn find<const N: usize>(text: &[u8], at: usize, set: &[u8; N]) -> usize
+    ensures { result ≡ run_end (is_none_of set.now) text.now at }
 {
-    let blocks = none_of_end(text, at, a, b, c, d);
-    let words = words::none_of_end(text, blocks, a, b, c, d);
-    scan::until_four(text, words, a, b, c, d)
+    let blocks = passed_end(text, at, SET_BLOCK, |block: &[u8]| -> bool
+        ensures { result ≡ true → list_all (is_none_of set.entry.now) block.now ≡ true }
+    { none_of(block, set) });
+    let words = words::none_of_end(text, blocks, set);
+    scan::until(text, words, set)
 }
 
 // How many bytes are looked at one by one first: most names and values end within them.
 const NEAR: usize = 16;
 
-fn near_end(size: usize, at: usize) -> usize
-    requires { at < size }
-    ensures { (at ≤ result) × (result ≤ size) }
-{
-    if size - at <= NEAR {
-        return size;
-    }
-    at + NEAR
-}
-
-// What `until_far` finds, and sooner where it is near. Without `until_far` this is small, and stands in its callers with their bytes as constants.
-fn until_four(text: &[u8], at: usize, a: u8, b: u8, c: u8, d: u8) -> usize
-    ensures { result ≡ run_end (is_none_of (a ∷ b ∷ c ∷ d ∷ [])) text.now at }
+// What `find` finds, and sooner where it is near. Without `find` this is small, and stands in its callers with their bytes as constants.
+pub fn until<const N: usize>(text: &[u8], at: usize, set: &[u8; N]) -> usize
+    ensures { result ≡ run_end (is_none_of set.now) text.now at }
 {
     if text.len() <= at {
         return at;
     }
-    let near = near_end(text.len(), at);
-    let mut i = at;
-    while i < near {
-        if scan::is_one_of_four(a, b, c, d, text[i]) {
+    let near = at + NEAR.min(text.len() - at);
+    for i in at..near {
+        if scan::is_one_of(set, text[i]) {
             return i;
         }
-        i += 1;
     }
-    until_far(text, near, a, b, c, d)
+    find(text, near, set)
 }
 
-// A smaller set repeats a byte, which costs nothing once the bytes are constants.
-pub fn until_three(text: &[u8], at: usize, a: u8, b: u8, c: u8) -> usize
-    ensures { result ≡ run_end (is_none_of (a ∷ b ∷ c ∷ [])) text.now at }
-{
-    until_four(text, at, a, b, c, c)
-}
-
-// What `until_three` finds, for parts of which most are either empty or longer than a word, as titles are: the first byte, then words of eight.
-pub fn words_until_three(text: &[u8], at: usize, a: u8, b: u8, c: u8) -> usize
-    ensures { result ≡ run_end (is_none_of (a ∷ b ∷ c ∷ [])) text.now at }
+// What `until` finds, for parts of which most are either empty or longer than a word, as titles are: the first byte, then words of eight.
+pub fn words_until<const N: usize>(text: &[u8], at: usize, set: &[u8; N]) -> usize
+    ensures { result ≡ run_end (is_none_of set.now) text.now at }
 {
     if text.len() <= at {
         return at;
     }
-    if scan::is_one_of_four(a, b, c, c, text[at]) {
+    if scan::is_one_of(set, text[at]) {
         return at;
     }
-    let words = words::none_of_end(text, at, a, b, c, c);
-    scan::until_three(text, words, a, b, c)
+    let words = words::none_of_end(text, at, set);
+    scan::until(text, words, set)
 }
 
-pub fn until_one(text: &[u8], at: usize, a: u8) -> usize
-    ensures { result ≡ run_end (is_none_of (a ∷ [])) text.now at }
+// Whether `x` is one of `set`, of which all bytes are looked at.
+fn is_in<const N: usize>(set: &[u8; N], x: u8) -> bool
+    ensures { result ≡ is_one_of set.now x }
 {
-    until_four(text, at, a, a, a, a)
+    let mut one = false;
+    for b in set {
+        one = one | (*b == x);
+    }
+    one
 }
 
-// `until_one` for a byte that is far away as a rule.
-pub fn find_one(text: &[u8], at: usize, a: u8) -> usize
-    ensures { result ≡ run_end (is_none_of (a ∷ [])) text.now at }
-{
-    until_far(text, at, a, a, a, a)
-}
-
-// Whether each of the `size` bytes at `at` is one of four. All of them are looked at, as in `block_within`.
-fn block_one_of(text: &[u8], at: usize, size: usize, a: u8, b: u8, c: u8, d: u8) -> bool
-    requires { at + size ≤ length text.now }
-    ensures { result ≡ true → (j : ℕ) → at ≤ j → j < at + size → is_one_of (a ∷ b ∷ c ∷ d ∷ []) (get_or text.now j 0) ≡ true }
+// Whether each byte of a block is one of `set`. All of them are looked at, as in `all_within`.
+fn all_in<const N: usize>(block: &[u8], set: &[u8; N]) -> bool
+    ensures { result ≡ list_all (is_one_of set.now) block.now }
 {
     let mut all = true;
-    let mut k: usize = 0;
-    while k < size {
-        let i = at + k;
-        let x = text[i];
-        all = all & ((a == x) | (b == x) | (c == x) | (d == x));
-        k += 1;
+    for x in block {
+        all = all & is_in(set, *x);
     }
     all
 }
 
-// Past the blocks from `at` on that have only these four bytes.
-fn one_of_end(text: &[u8], at: usize, a: u8, b: u8, c: u8, d: u8) -> usize
-    ensures { run_end (is_one_of (a ∷ b ∷ c ∷ d ∷ [])) text.now at ≡ run_end (is_one_of (a ∷ b ∷ c ∷ d ∷ [])) text.now result }
+// Past bytes that are one of `set`, by blocks and then byte by byte.
+fn while_far<const N: usize>(text: &[u8], at: usize, set: &[u8; N]) -> usize
+    ensures { result ≡ run_end (is_one_of set.now) text.now at }
 {
-    if text.len() < SET_BLOCK {
+    let blocks = passed_end(text, at, SET_BLOCK, |block: &[u8]| -> bool
+        ensures { result ≡ list_all (is_one_of set.entry.now) block.now }
+    { all_in(block, set) });
+    scan::while_in(text, blocks, set)
+}
+
+// Past bytes that are one of `set`. Most runs of them are empty, and the first byte tells so at once.
+pub fn while_in<const N: usize>(text: &[u8], at: usize, set: &[u8; N]) -> usize
+    ensures { result ≡ run_end (is_one_of set.now) text.now at }
+{
+    if !is_in(set, scan::byte_at(text, at, 0)) {
         return at;
     }
-    let last = text.len() - SET_BLOCK;
-    let mut i = at;
-    while i <= last {
-        if block_one_of(text, i, SET_BLOCK, a, b, c, d) {
-            i += SET_BLOCK;
-        } else {
-            return i;
-        }
-    }
-    i
-}
-
-// Past bytes that are one of two.
-fn while_far(text: &[u8], at: usize, a: u8, b: u8) -> usize
-    ensures { result ≡ run_end (is_one_of (a ∷ b ∷ [])) text.now at }
-{
-    let blocks = one_of_end(text, at, a, b, b, b);
-    scan::while_four(text, blocks, a, b, b, b)
-}
-
-// Past bytes that are one of two. Most runs of them are empty, and the first byte tells so at once.
-pub fn while_two(text: &[u8], at: usize, a: u8, b: u8) -> usize
-    ensures { result ≡ run_end (is_one_of (a ∷ b ∷ [])) text.now at }
-{
-    let first = scan::byte_at(text, at, 0);
-    if (a == first) | (b == first) {
-        return while_far(text, at, a, b);
-    }
-    at
-}
-
-// Past a byte that is repeated.
-pub fn while_one(text: &[u8], at: usize, a: u8) -> usize
-    ensures { result ≡ run_end (is_one_of (a ∷ [])) text.now at }
-{
-    while_far(text, at, a, a)
+    while_far(text, at, set)
 }
 
 // Past blanks: spaces, tabs, CRs and LFs. Most runs of them are empty, and a byte above the space tells so at once; of the others most have one blank.
 pub fn multispace0(text: &[u8], at: usize) -> usize
     ensures { result ≡ run_end is_multispace text.now at }
 {
-    if text.len() <= at {
-        return at;
-    }
-    if b' ' < text[at] {
+    if b' ' < scan::byte_at(text, at, 0) {
         return at;
     }
     if b' ' < scan::byte_at(text, at, 1) {
-        return scan::while_four(text, at, b' ', b'\t', b'\r', b'\n');
+        return scan::while_in(text, at, b" \t\r\n");
     }
-    let blocks = one_of_end(text, at, b' ', b'\t', b'\r', b'\n');
-    scan::while_four(text, blocks, b' ', b'\t', b'\r', b'\n')
+    while_far(text, at, b" \t\r\n")
 }
 
 // How many digits are passed in one go.
@@ -308,7 +222,7 @@ pub fn digits_end(text: &[u8], at: usize) -> usize
     ensures { result ≡ run_end is_digit text.now at }
 {
     if scan::is_digit(scan::byte_at(text, at, DIGIT_BLOCK - 1)) {
-        let blocks = within_end(text, at, DIGIT_BLOCK, b'0', b'9');
+        let blocks = passed_end(text, at, DIGIT_BLOCK, |block| all_within(block, b'0', b'9'));
         return scan::digits_end(text, blocks);
     }
     scan::digits_end(text, at)

@@ -43,11 +43,9 @@ fn block_fits(text: &[u8], at: usize) -> bool
     ensures { result ≡ true → (j : ℕ) → at ≤ j → j < at + 64 → rule.fits_at text.now j ≡ true }
 {
     let mut all = true;
-    let mut k: usize = 0;
-    while k < BLOCK {
+    for k in 0..BLOCK {
         let i = at + k;
         all = all & fits(text[i], text[i + 1], text[i + 2], text[i + 3]);
-        k += 1;
     }
     all
 }
@@ -88,6 +86,7 @@ pub fn blocks_end(text: &[u8], at: usize) -> usize
     if last_start(text, i) != at {
         return at;
     }
+    // A `while`: the step varies.
     while i <= last {
         let ascii = blocks::ascii_blocks(text, i);
         if i + BEFORE < ascii {

@@ -1,1 +1,2 @@
--- the laws stand in `text`
+-- a set of bytes
+pub mod Sets

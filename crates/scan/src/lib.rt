@@ -2,8 +2,8 @@
 // Each function takes any text and any place, past the end too. Its contract is one equation with a rule of `text`.
 #![tactic(auto)]
 
-ghost use Rattle.std.specs.Prelude.{◌≡◌, [], ◌∷◌, ◌+◌, ◌≤◌, length, get_or};
-ghost use Rattle.text.specs.Nom.{is_digit, is_one_of, is_none_of, tagged, after_tag, run_end, span_or, is_space};
+ghost use Rattle.std.specs.Prelude.{◌≡◌, ◌+◌, ◌≤◌, ◌<◌, ℕ, Bool, length, get_or};
+ghost use Rattle.text.specs.Nom.{is_ascii, is_digit, is_one_of, is_none_of, tagged, after_tag, run_end, span_or, is_space};
 ghost use Rattle.text.specs.Util as util;
 ghost use Rattle.text.specs.Spans.{span_fits};
 ghost use Rattle.text.specs.Answers.{span_of, part_of};
@@ -20,14 +20,7 @@ pub fn is_digit(b: u8) -> bool
 pub fn is_one_of(set: &[u8], b: u8) -> bool
     ensures { result ≡ is_one_of set.now b }
 {
-    let mut k = 0;
-    while k < set.len() {
-        if set[k] == b {
-            return true;
-        }
-        k += 1;
-    }
-    false
+    set.contains(&b)
 }
 
 // The byte so many places after `at`; 0 where the text is shorter.
@@ -50,10 +43,8 @@ fn same_bytes(text: &[u8], at: usize, tag: &[u8]) -> bool
     ensures { result ≡ tagged tag.now text.now at }
 {
     let mut same = true;
-    let mut k: usize = 0;
-    while k < tag.len() {
+    for k in 0..tag.len() {
         same = same & (text[at + k] == tag[k]);
-        k += 1;
     }
     same
 }
@@ -101,119 +92,52 @@ pub fn part(start: usize, end: usize) -> Option<Span>
     (start < end).then_some(Span { start, end })
 }
 
+// The end of the run at `at` of bytes that pass a test.
+fn run_end<F: Fn(u8) -> bool>(text: &[u8], at: usize, passes: F) -> usize
+    requires { F.IsAlwaysCallable passes }
+    ensures { (p : ℕ → Bool) → ((b : ℕ) (r : Bool) → b < 256 → F.post passes b r → r ≡ p b) → result ≡ run_end p text.now at }
+{
+    for i in at..text.len() {
+        if !passes(text[i]) {
+            return i;
+        }
+    }
+    at.max(text.len())
+}
+
 // The end of the run of digits at `at`.
 pub fn digits_end(text: &[u8], at: usize) -> usize
     ensures { result ≡ run_end is_digit text.now at }
 {
-    let mut i = at;
-    while i < text.len() {
-        if is_digit(text[i]) {
-            i += 1;
-        } else {
-            return i;
-        }
-    }
-    i
+    run_end(text, at, is_digit)
+}
+
+// The end of the run of ASCII bytes at `at`.
+pub fn ascii_end(text: &[u8], at: usize) -> usize
+    ensures { result ≡ run_end is_ascii text.now at }
+{
+    run_end(text, at, |b| b.is_ascii())
 }
 
 // The first place from `at` on whose byte is one of `set`, or where the text ends.
-pub fn until_any(text: &[u8], at: usize, set: &[u8]) -> usize
+pub fn until(text: &[u8], at: usize, set: &[u8]) -> usize
     ensures { result ≡ run_end (is_none_of set.now) text.now at }
 {
-    let mut i = at;
-    while i < text.len() {
-        if is_one_of(set, text[i]) {
-            return i;
-        }
-        i += 1;
-    }
-    i
+    run_end(text, at, |b| !is_one_of(set, b))
 }
 
 // The first place from `at` on whose byte is none of `set`, or where the text ends.
-pub fn while_any(text: &[u8], at: usize, set: &[u8]) -> usize
+pub fn while_in(text: &[u8], at: usize, set: &[u8]) -> usize
     ensures { result ≡ run_end (is_one_of set.now) text.now at }
 {
-    let mut i = at;
-    while i < text.len() {
-        if is_one_of(set, text[i]) {
-            i += 1;
-        } else {
-            return i;
-        }
-    }
-    i
-}
-
-// Whether `x` is one of four bytes.
-pub fn is_one_of_four(a: u8, b: u8, c: u8, d: u8, x: u8) -> bool
-    ensures { result ≡ is_one_of (a ∷ b ∷ c ∷ d ∷ []) x }
-{
-    if a == x {
-        return true;
-    }
-    if b == x {
-        return true;
-    }
-    if c == x {
-        return true;
-    }
-    d == x
-}
-
-// `until_any` for a set of four bytes, which are tested in place: the reading spends its time in such scans.
-pub fn until_four(text: &[u8], at: usize, a: u8, b: u8, c: u8, d: u8) -> usize
-    ensures { result ≡ run_end (is_none_of (a ∷ b ∷ c ∷ d ∷ [])) text.now at }
-{
-    let mut i = at;
-    while i < text.len() {
-        if is_one_of_four(a, b, c, d, text[i]) {
-            return i;
-        }
-        i += 1;
-    }
-    i
-}
-
-// A smaller set repeats a byte, which costs nothing once the bytes are constants.
-pub fn until_three(text: &[u8], at: usize, a: u8, b: u8, c: u8) -> usize
-    ensures { result ≡ run_end (is_none_of (a ∷ b ∷ c ∷ [])) text.now at }
-{
-    until_four(text, at, a, b, c, c)
-}
-
-pub fn until_two(text: &[u8], at: usize, a: u8, b: u8) -> usize
-    ensures { result ≡ run_end (is_none_of (a ∷ b ∷ [])) text.now at }
-{
-    until_four(text, at, a, b, b, b)
-}
-
-pub fn until_one(text: &[u8], at: usize, a: u8) -> usize
-    ensures { result ≡ run_end (is_none_of (a ∷ [])) text.now at }
-{
-    until_four(text, at, a, a, a, a)
-}
-
-// `while_any` for a set of four bytes, tested in place.
-pub fn while_four(text: &[u8], at: usize, a: u8, b: u8, c: u8, d: u8) -> usize
-    ensures { result ≡ run_end (is_one_of (a ∷ b ∷ c ∷ d ∷ [])) text.now at }
-{
-    let mut i = at;
-    while i < text.len() {
-        if is_one_of_four(a, b, c, d, text[i]) {
-            i += 1;
-        } else {
-            return i;
-        }
-    }
-    i
+    run_end(text, at, |b| is_one_of(set, b))
 }
 
 // Past spaces and tabs.
 pub fn space0(text: &[u8], at: usize) -> usize
     ensures { result ≡ run_end is_space text.now at }
 {
-    while_four(text, at, b' ', b'\t', b'\t', b'\t')
+    while_in(text, at, b" \t")
 }
 
 // Whether a span that a table's words tell lies within the text: start <= end <= text length.

@@ -1,5 +1,5 @@
 -- What each answer of the code says, in the words of the rules. Assumes nothing.
-use Rattle.std.specs.Prelude.{ℕ, zero, suc, ◌+◌, Bool}
+use Rattle.std.specs.Prelude.{ℕ, ◌+◌, Bool, Option, None, Some}
 use Rattle.text.specs.Why.{missing_byte}
 use Rattle.text.specs.Nom.{Res, fail, ok, when}
 
@@ -7,7 +7,7 @@ use Rattle.text.specs.Nom.{Res, fail, ok, when}
 unfoldable pub taken : Bool → ℕ → Res (Unit {0})
 taken b n = when b missing_byte (ok tt n)
 
--- a character of so many bytes; 0: there is none
-abbrev pub char_of : ℕ → ℕ → Res (Unit {0})
-char_of zero at = fail missing_byte
-char_of (suc n) at = ok tt (at + suc n)
+-- a character of so many bytes, or none
+abbrev pub char_of : Option ℕ → ℕ → Res (Unit {0})
+char_of None at = fail missing_byte
+char_of (Some n) at = ok tt (at + n)

@@ -83,23 +83,23 @@ fn utf8_4(text: &[u8], at: usize) -> bool
 }
 
 // UTF8-char   = UTF8-1 / UTF8-2 / UTF8-3 / UTF8-4
-// The length of the character at `at`, or 0 where there is none.
-pub fn utf8_char(text: &[u8], at: usize) -> usize
+// The length of the character at `at`, where there is one.
+pub fn utf8_char(text: &[u8], at: usize) -> Option<usize>
     ensures { char_of result at ≡ rule.utf8_char text.now at }
 {
     if utf8_1(text, at) {
-        return 1;
+        return Some(1);
     }
     if utf8_2(text, at) {
-        return 2;
+        return Some(2);
     }
     if utf8_3(text, at) {
-        return 3;
+        return Some(3);
     }
     if utf8_4(text, at) {
-        return 4;
+        return Some(4);
     }
-    0
+    None
 }
 
 // Past the first characters, up to where as many bytes stand before as `characters` looks back.
@@ -107,11 +107,11 @@ fn first_end(text: &[u8]) -> usize
     ensures { rule.utf8_end text.now 0 ≡ rule.utf8_end text.now result }
 {
     let mut end = 0;
+    // A `while`, as in `utf8_end`: the step varies.
     while end < characters::BEFORE {
-        let n = utf8_char(text, end);
-        if n == 0 {
+        let Some(n) = utf8_char(text, end) else {
             return end;
-        }
+        };
         end += n;
     }
     end
@@ -125,10 +125,9 @@ pub fn utf8_end(text: &[u8]) -> usize
 {
     let mut i = characters::blocks_end(text, first_end(text));
     while i < text.len() {
-        let n = utf8_char(text, i);
-        if n == 0 {
+        let Some(n) = utf8_char(text, i) else {
             return i;
-        }
+        };
         i = blocks::ascii_end(text, i + n);
     }
     i

@@ -15,8 +15,7 @@ fn block_quiet(text: &[u8], at: usize, size: usize) -> bool
     ensures { result ≡ true → (j : ℕ) → at ≤ j → j < at + size → quiet_at text.now j ≡ true }
 {
     let mut quiet = true;
-    let mut k: usize = 0;
-    while k < size {
+    for k in 0..size {
         let i = at + k;
         let x = text[i];
         let y = text[i + 1];
@@ -25,7 +24,6 @@ fn block_quiet(text: &[u8], at: usize, size: usize) -> bool
             & ((b'\r' == x)
                 | (b'\n' == x)
                 | ((b'#' != x) & (b'#' != y) & ((b'\r' != y) | (b'\n' == z))));
-        k += 1;
     }
     quiet
 }

@@ -3,8 +3,8 @@
 use mathlib.Core.Path.{◌≡◌, refl, sym, ◌∙◌, ap, subst}
 use mathlib.Core.Bool.{Bool, true, false, ◌&&◌, cond}
 use mathlib.Core.List.{List, [], ◌∷◌, map}
-use Prim.Native.Nat.{ℕ, zero, suc, ◌+◌, ◌-◌, ◌*◌, ◌/◌, ◌%◌, ◌^◌, ◌≤◌, ◌<◌}
-use native.Mathlib.Nat.{suc-add, zero-add, mod-one, div-one, mod-lt, div-add-mod', le_of_suc-le-suc, not-suc-le-zero, zero-lt-suc}
+use Prim.Native.Nat.{ℕ, zero, suc, ◌+◌, ◌-◌, ◌*◌, ◌/◌, ◌%◌, ◌^◌, ◌≤◌, ◌<◌, zero-le, suc-le-suc}
+use native.Mathlib.Nat.{suc-add, zero-add, mod-one, div-one, mod-lt, div-add-mod', div-div-eq-div-mul, pow-suc, le_of_suc-le-suc, not-suc-le-zero, zero-lt-suc}
 use native.Mathlib.Numerals.{add-one, one-add}
 use native.Mathlib.Decide.{dec_le}
 use native.Mathlib.Omega.{arith}
@@ -13,13 +13,16 @@ use lib.Arith.{digits_div, digits_mod}
 use lib.Pow.{mod-pow-add, shr-shr}
 use lib.Bits.{bit_and, bit_or, bit_xor, and_block, or_block, xor_block, and_le_l, and_le_r, or_lt, xor_lt, or_mod, or_shr, or_add_and, xor_add_and, xor_self, xor_zero_r}
 use lib.Count.{under, count_trailing_zeros, trailing_le}
-use lib.ListN.{length, take, drop, get_or, get_or-map}
+use lib.ListN.{length, take, drop, get_or, get_or-map, get_or-eq_default, length-drop, length-take}
 use lib.Seq.{drop-cons, get_or-take, get_or-drop}
 use borrow.Author.Tests.{eqb-true, eqb-false, ne_eqb, ltb-false}
+use Rattle.std.specs.Int.{bytes_low_first, byte_at, from_le_bytes}
+use Rattle.std.proofs.lemmas.Nat.{le_bytes_8}
+use Rattle.std.proofs.Common.{w64}
 use Rattle.text.specs.Nom.{bytes, is_none_of, run_end}
-use Rattle.words.specs.Inside.Word.{bytes_of, mark, mark_of}
+use Rattle.words.specs.Inside.Word.{bytes_of, mark, mark_of, Unmarked}
 use Rattle.text.proofs.Laws.{and_left, and_right}
-use Rattle.text.proofs.Stretches.{All, Passes, run_on}
+use Rattle.text.proofs.Stretches.{All, Passes, more, run_on}
 
 -- within a text it does not matter what is read past its end
 any_default : (text : List ℕ) (j d e : ℕ) → j < length text → get_or text j d ≡ get_or text j e
@@ -30,19 +33,35 @@ bytes_below : (n w b : ℕ) → b < 256 → bytes_of (suc n) (w * 256 + b) ≡ b
 unfolding bytes_of
 bytes_below n w b h = rw (digits_mod w h, digits_div w h)
 
--- ---- a number that holds bytes of a text
-module _ (text : List ℕ) where
-  abbrev pub Holds : ℕ → ℕ → ℕ → Type 0
-  Holds n w i = bytes_of n w ≡ take n (drop i text)
+-- ---- the words of a text
+-- the bytes of a number from the i-th on, as the library writes them
+low_bytes : (n i w : ℕ) → bytes_of n (w / 256 ^ i) ≡ bytes_low_first i n w
+unfolding bytes_of
+low_bytes zero i w = refl
+low_bytes (suc n) i w = cc (byte i, ap (bytes_of n) (div-div-eq-div-mul w (256 ^ i) 256 ∙ ap (λ (x : ℕ). w / x) (sym (pow-suc 256 i))), low_bytes n (suc i) w)
+  where
+    byte : (i : ℕ) → w / 256 ^ i % 256 ≡ byte_at i w
+    byte zero = ap (λ (x : ℕ). x % 256) (div-one w)
+    byte (suc i) = refl
 
-  pub holds_none : (w i : ℕ) → Holds 0 w i
-  unfolding bytes_of
-  holds_none w i = refl
+-- a word holds the bytes of the text at its place
+abbrev pub Holds : List ℕ → ℕ → ℕ → Type 0
+Holds text w i = bytes_of 8 w ≡ take 8 (drop i text)
 
-  pub holds_more : (n w v i j : ℕ) → j ≡ i + 1 → i < length text → (v ≡ w * 256 + get_or text i 0) × (v < w * 256 + 256) → Holds n w j → Holds (suc n) v i
-  holds_more n w v i j z h r e =
-      let next : j ≡ suc i = omega arith in
-      ap (bytes_of (suc n)) r.0 ∙ bytes_below n w (get_or text i 0) (omega arith) ∙ rw (e, next, drop-cons text i 0 h)
+-- as one does that is read of these bytes
+pub read_word : (text : List ℕ) (i w : ℕ) (bs : List ℕ) → ((j : ℕ) → get_or text j 0 < 256) → i + 8 ≤ length text → bs ≡ take (i + 8 - i) (drop i text) → w ≡ from_le_bytes w64 bs → Holds text w i
+read_word text i w bs small h f e =
+    let eight : i + 8 - i ≡ 8 = omega arith in
+    let part : bs ≡ take 8 (drop i text) = f ∙ ap (λ (n : ℕ). take n (drop i text)) eight in
+    let len : length (take 8 (drop i text)) ≡ 8 = omega (arith, length-take 8 (drop i text), length-drop i text) in
+    ap (bytes_of 8) (sym (div-one w)) ∙ low_bytes 8 0 w ∙ le_bytes_8 (take 8 (drop i text)) w len byte (e ∙ ap (from_le_bytes w64) part)
+  where
+    byte : (j : ℕ) → get_or (take 8 (drop i text)) j 0 < 256
+    byte j = go (dec_le 8 j)
+      where
+        go : Dec (8 ≤ j) → get_or (take 8 (drop i text)) j 0 < 256
+        go (yes l) = rw (get_or-eq_default (take 8 (drop i text)) 0 {n = j} (omega (arith, length-take 8 (drop i text)))) (lit< tt)
+        go (no l) = rw (get_or-take 8 (drop i text) j 0 (omega arith), get_or-drop i text j 0) (small (i + j))
 
 -- ---- the marks of n bytes at once
 -- n times the same byte
@@ -216,25 +235,20 @@ mark_of_lem m f w k e h =
 pub line_unmarked : (w f : ℕ) → bytes_of 8 f ≡ map mark (bytes_of 8 w) → (k : ℕ) → k < 8 → get_or (bytes_of 8 f) k 0 ≡ 0 → is_none_of (bytes "\r\n") (get_or (bytes_of 8 w) k 0) ≡ true
 line_unmarked w f e k h z = ends_none (get_or (bytes_of 8 w) k 0) (mark_of_lem mark f w k e h ∙ z)
 
--- .. is none of four
-pub four_unmarked : (w a b c d fa fb fc fd : ℕ) → bytes_of 8 fa ≡ map (mark_of a) (bytes_of 8 w) → bytes_of 8 fb ≡ map (mark_of b) (bytes_of 8 w) → bytes_of 8 fc ≡ map (mark_of c) (bytes_of 8 w)
-    → bytes_of 8 fd ≡ map (mark_of d) (bytes_of 8 w) → (k : ℕ) → k < 8 → get_or (bytes_of 8 (bit_or (bit_or (bit_or fa fb) fc) fd)) k 0 ≡ 0
-    → is_none_of (a ∷ b ∷ c ∷ d ∷ []) (get_or (bytes_of 8 w) k 0) ≡ true
-four_unmarked w a b c d fa fb fc fd ea eb ec ed k h e =
-    let x = get_or (bytes_of 8 w) k 0 in
-    let o = or_bytes 8 (bit_or (bit_or fa fb) fc) fd k e in
-    let p = or_bytes 8 (bit_or fa fb) fc k o.0 in
-    let q = or_bytes 8 fa fb k p.0 in
-    rw (
-      not_marked a x (mark_of_lem (mark_of a) fa w k ea h ∙ q.0),
-      not_marked b x (mark_of_lem (mark_of b) fb w k eb h ∙ q.1),
-      not_marked c x (mark_of_lem (mark_of c) fc w k ec h ∙ p.1),
-      not_marked d x (mark_of_lem (mark_of d) fd w k ed h ∙ o.1),
-    )
+-- a byte that is none of the bytes of a set
+pub none_of_all : (set : List ℕ) (x : ℕ) → All (λ j. eqb (get_or set j 0) x ≡ false) 0 (length set) → is_none_of set x ≡ true
+none_of_all [] x h = refl
+none_of_all (b ∷ set) x h = rw (h 0 zero-le (zero-lt-suc (length set))) (none_of_all set x (λ j n l. h (suc j) zero-le (suc-le-suc l)))
+
+-- one more byte of a set has left no mark
+pub unmarked_on : (set : List ℕ) (w n f g : ℕ) → ((k : ℕ) → k < 8 → get_or (bytes_of 8 f) k 0 ≡ 0 → All (λ j. eqb (get_or set j 0) (get_or (bytes_of 8 w) k 0) ≡ false) 0 n)
+    → bytes_of 8 g ≡ map (mark_of (get_or set n 0)) (bytes_of 8 w) → (k : ℕ) → k < 8 → get_or (bytes_of 8 (bit_or f g)) k 0 ≡ 0 → All (λ j. eqb (get_or set j 0) (get_or (bytes_of 8 w) k 0) ≡ false) 0 (n + 1)
+unmarked_on set w n f g h e k l z =
+    let o = or_bytes 8 f g k z in
+    more (λ j. eqb (get_or set j 0) (get_or (bytes_of 8 w) k 0) ≡ false) 0 n (h k l o.0) (not_marked (get_or set n 0) (get_or (bytes_of 8 w) k 0) (mark_of_lem (mark_of (get_or set n 0)) g w k e l ∙ o.1))
 
 -- ---- a run up to the first byte of a word that is marked
-module _ (p : ℕ → Bool) (text : List ℕ) (i w found : ℕ) (h : i + 8 ≤ length text) (e : Holds text 8 w i)
-    (unmarked : (k : ℕ) → k < 8 → get_or (bytes_of 8 found) k 0 ≡ 0 → p (get_or (bytes_of 8 w) k 0) ≡ true) where
+module _ (p : ℕ → Bool) (text : List ℕ) (i w found : ℕ) (h : i + 8 ≤ length text) (e : Holds text w i) (unmarked : Unmarked p w found) where
   passes : All (λ j. (j < length text) × Passes p text j) i (i + count_trailing_zeros 64 found / 8)
   passes j n l =
       let most : count_trailing_zeros 64 found ≤ 64 = trailing_le 64 found in

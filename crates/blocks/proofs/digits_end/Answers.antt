@@ -1,10 +1,8 @@
--- `blocks::digits_end`: with the blocks or without, the run of digits from there on. Assumes nothing.
-use mathlib.Core.Path.{sym, ◌∙◌}
-use Rattle.blocks.proofs.Blocks.{digits_on}
+-- `blocks::digits_end`: what is passed are digits. Assumes nothing.
+use Rattle.std.proofs.Common.{rules, sym, ◌∙◌}
+use Rattle.text.specs.Nom.{is_digit}
 use Rattle.blocks.proofs.digits_end.Goals as goal
 
 pub returns-then-is_digit : goal.returns-then-is_digit
-returns-then-is_digit c = let e = c.within_end-blocks.ensures in c.digits_end.ensures ∙ sym (digits_on _ _ _ e.0 e.1)
-
-pub returns : goal.returns
-returns c = c.digits_end-2.ensures
+unfolding is_digit
+returns-then-is_digit c = c.digits_end.ensures ∙ sym (c.passed_end-blocks.ensures.run is_digit (λ block e. search rules))

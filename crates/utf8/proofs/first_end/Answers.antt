@@ -4,17 +4,11 @@ use native.Mathlib.Omega.{arith}
 use Rattle.utf8.proofs.Chars.{char_room, end_step}
 use Rattle.utf8.proofs.first_end.Goals as goal
 
-pub loop-end-init : goal.loop-end-init
-loop-end-init c = refl
-
-pub returns-then-n-eq0 : goal.returns-then-n-eq0
-returns-then-n-eq0 c = c.loop-end.invariant
-
 pub overflow_add-end : goal.overflow_add-end
-overflow_add-end c = omega (arith, char_room _ _ _ c.utf8_char-n.ensures c.if-n-eq0.false)
+overflow_add-end c = omega (arith, char_room _ _ _ c.in-Some.ensures)
+
+pub loop-end-smaller : goal.loop-end-smaller
+loop-end-smaller c = omega (arith, char_room _ _ _ c.in-Some.ensures)
 
 pub loop-end-preserved : goal.loop-end-preserved
-loop-end-preserved c = c.loop-end.invariant ∙ end_step _ _ _ c.utf8_char-n.ensures c.if-n-eq0.false
-
-pub returns : goal.returns
-returns c = c.loop-end.invariant
+loop-end-preserved c = c.loop-end.invariant ∙ end_step _ _ _ c.in-Some.ensures

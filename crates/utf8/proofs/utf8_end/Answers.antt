@@ -10,20 +10,17 @@ use Rattle.text.proofs.Utf8.{ascii_run, end_out}
 use Rattle.utf8.proofs.Chars.{char_room, end_stop, end_step}
 use Rattle.utf8.proofs.utf8_end.Goals as goal
 
-pub loop-i-init : goal.loop-i-init
-loop-i-init c = c.first_end.ensures ∙ c.blocks_end-i.ensures
-
-pub returns-then-n-eq0 : goal.returns-then-n-eq0
-returns-then-n-eq0 c = sym (c.loop-i.invariant ∙ end_stop _ _ _ c.utf8_char-n.ensures c.if-n-eq0.true)
+pub returns-in_default : goal.returns-in_default
+returns-in_default c = sym (c.loop-i.invariant ∙ end_stop _ _ c.in_default.ensures)
 
 pub overflow_add-i : goal.overflow_add-i
-overflow_add-i c = omega (arith, char_room _ _ _ c.utf8_char-n.ensures c.if-n-eq0.false)
+overflow_add-i c = omega (arith, char_room _ _ _ c.in-Some.ensures)
 
 pub loop-i-smaller : goal.loop-i-smaller
-loop-i-smaller c = omega (arith, c.ascii_end-i.ensures, run_from is_ascii c.args.text.now (c.loop-i.i + c.utf8_char-n.result))
+loop-i-smaller c = omega (arith, char_room _ _ _ c.in-Some.ensures, c.ascii_end-i.ensures, run_from is_ascii c.args.text.now (c.loop-i.i + c.in-Some.n))
 
 pub loop-i-preserved : goal.loop-i-preserved
-loop-i-preserved c = c.loop-i.invariant ∙ end_step _ _ _ c.utf8_char-n.ensures c.if-n-eq0.false ∙ ascii_run _ _ ∙ ap (utf8_end _) (sym c.ascii_end-i.ensures)
+loop-i-preserved c = c.loop-i.invariant ∙ end_step _ _ _ c.in-Some.ensures ∙ ascii_run _ _ ∙ ap (utf8_end _) (sym c.ascii_end-i.ensures)
 
 pub returns : goal.returns
 returns c = sym (c.loop-i.invariant ∙ end_out _ _ c.loop-i-test.false)

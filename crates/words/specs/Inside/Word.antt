@@ -1,5 +1,5 @@
 -- A number as bytes, and a mark on those of them that may end a line, or that are a given byte. Assumes nothing.
-use Rattle.std.specs.Prelude.{ℕ, zero, suc, ◌/◌, ◌%◌, cond, ◌≡◌, refl, List, [], ◌∷◌, map, ltb, eqb}
+use Rattle.std.specs.Prelude.{ℕ, zero, suc, ◌/◌, ◌%◌, ◌<◌, Bool, true, get_or, cond, ◌≡◌, refl, List, [], ◌∷◌, map, ltb, eqb}
 use Rattle.text.specs.Nom.{bytes}
 
 -- so many bytes of a number, the lowest first
@@ -14,6 +14,10 @@ mark b = cond (ltb b 14) 128 0
 -- where it is the byte b
 unfoldable pub mark_of : ℕ → ℕ → ℕ
 mark_of b x = cond (eqb b x) 128 0
+
+-- each byte of the word on which no mark is passes the test
+abbrev pub Unmarked : (ℕ → Bool) → ℕ → ℕ → Type 0
+Unmarked p word found = (k : ℕ) → k < 8 → get_or (bytes_of 8 found) k 0 ≡ 0 → p (get_or (bytes_of 8 word) k 0) ≡ true
 
 -- ---- a number as bytes
 lowest_first : bytes_of 4 0x620A0D61 ≡ bytes "a\r\nb"

@@ -1,8 +1,0 @@
--- `scan::until_two`: `until_four` with a byte repeated. Assumes nothing.
-use mathlib.Core.Path.{◌∙◌, ap}
-use mathlib.Core.Bool.{not}
-use Rattle.text.proofs.Laws.{run_end_same, same_two}
-use Rattle.scan.proofs.until_two.Goals as goal
-
-pub returns : goal.returns
-returns c = let a = c.args in c.until_four.ensures ∙ run_end_same _ _ (λ x. ap not (same_two a.a a.b x)) _ _
