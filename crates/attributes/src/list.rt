@@ -15,7 +15,7 @@ use text::{IResult, Span};
 pub fn next_pair(text: &[u8], at: usize) -> IResult<Pair>
     ensures { pair_res result ≡ rule.next_pair text.now at }
 {
-    pair::key_value_pair(text, blocks::while_two(text, at, b' ', b'\t'))
+    pair::key_value_pair(text, blocks::while_in(text, at, b" \t"))
 }
 
 // Where the name ends that begins here and has so many bytes: at the names' end, where fewer are left.

@@ -18,7 +18,7 @@ pub fn quoted(text: &[u8], at: usize) -> IResult<QuotedOrUnquoted>
 {
     if scan::starts_with(text, at, b"\"") {
         let start = at + 1;
-        let end = blocks::until_one(text, start, b'"');
+        let end = blocks::until(text, start, b"\"");
         if end <= start {
             return Err(Why::MissingByte);
         }
@@ -33,7 +33,7 @@ pub fn quoted(text: &[u8], at: usize) -> IResult<QuotedOrUnquoted>
 pub fn unquoted(text: &[u8], at: usize) -> IResult<QuotedOrUnquoted>
     ensures { value_res result ≡ rule.unquoted text.now at }
 {
-    let end = blocks::until_three(text, at, b',', b'\r', b'\n');
+    let end = blocks::until(text, at, b",\r\n");
     if at < end {
         Ok((QuotedOrUnquoted::Unquoted(Span { start: at, end }), end))
     } else {
@@ -64,7 +64,7 @@ pub fn key_value_pair(text: &[u8], at: usize) -> IResult<Pair>
     if scan::is_one_of(b"\r\n", text[at]) {
         return Err(Why::MissingByte);
     }
-    let name_end = blocks::until_one(text, at, b'=');
+    let name_end = blocks::until(text, at, b"=");
     if text.len() <= name_end {
         return Err(Why::OtherText);
     }

@@ -43,7 +43,7 @@ fn noted(text: &[u8], f: Failing, at: usize) -> Failing
     if text.len() <= at {
         return f;
     }
-    let equals = blocks::until_one(text, at, b'=');
+    let equals = blocks::until(text, at, b"=");
     let found = Span {
         start: at + 1,
         end: equals,

@@ -80,7 +80,7 @@ fn walk(
                 fails,
             };
         }
-        let tried = failing::pair_at(text, blocks::while_two(text, from, b' ', b'\t'), fails);
+        let tried = failing::pair_at(text, blocks::while_in(text, from, b" \t"), fails);
         fails = tried.fails;
         let Ok((p, after)) = tried.pair else {
             return Walked { end: from, fails };
@@ -220,7 +220,7 @@ fn begun(
     requires { rule.place_words + 2 * length held.old ≤ length memory.old }
     ensures { BegunAs text.now (words names.now sizes.now) at (memory_seen m) memory.old held.old held.new result memory.new }
 {
-    let tried = failing::pair_at(text, blocks::while_two(text, at, b' ', b'\t'), m.fails);
+    let tried = failing::pair_at(text, blocks::while_in(text, at, b" \t"), m.fails);
     let m = Memory {
         fails: tried.fails,
         ..m
@@ -292,7 +292,7 @@ fn remembered(
     ensures { RememberedAs text.now (words names.now sizes.now) at memory.old held.old held.new result memory.new }
 {
     let m = chain::forward_all(text, kept::load(memory), at);
-    let name = blocks::while_two(text, at, b' ', b'\t');
+    let name = blocks::while_in(text, at, b" \t");
     if joins(text, name, m.first) {
         return join_first(text, name, names, sizes, held, memory, m);
     }

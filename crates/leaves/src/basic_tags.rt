@@ -32,7 +32,7 @@ pub fn ext_tag(text: &[u8], at: usize) -> IResult<ExtTag>
         return Err(Why::OtherText);
     }
     let name = at + 5;
-    let name_end = blocks::until_three(text, name, b'\r', b'\n', b':');
+    let name_end = blocks::until(text, name, b"\r\n:");
     if name_end <= name {
         return Err(Why::NameEmpty);
     }

@@ -56,7 +56,7 @@ fn parsed_to(v: u64, at: usize, end: usize) -> Parsed
 fn long_number(text: &[u8], at: usize) -> Parsed
     ensures { parsed_of result ≡ rule.parsed text.now at }
 {
-    let first = blocks::while_one(text, at, b'0');
+    let first = blocks::while_in(text, at, b"0");
     let mut v: u64 = 0;
     for i in first..text.len() {
         let b = text[i];

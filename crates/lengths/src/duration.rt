@@ -115,7 +115,7 @@ pub fn duration_title_tag(text: &[u8], at: usize) -> IResult<Extinf>
 {
     let (duration, end) = float(text, at)?;
     let title = scan::after_tag(text, end, b",");
-    let title_end = blocks::words_until_three(text, title, b'\r', b'\n', b',');
+    let title_end = blocks::words_until(text, title, b"\r\n,");
     if text.len() <= title_end {
         return Err(Why::MissingByte);
     }
@@ -148,7 +148,7 @@ pub fn extinf_end(text: &[u8], at: usize) -> Option<(bool, usize)>
     let end = fraction_end(text, point);
     let too_many = (SIDE_DIGITS < point - at) | (SIDE_DIGITS + 1 < end - point);
     let title = scan::after_tag(text, end, b",");
-    let title_end = blocks::words_until_three(text, title, b'\r', b'\n', b',');
+    let title_end = blocks::words_until(text, title, b"\r\n,");
     if text.len() <= title_end {
         return None;
     }

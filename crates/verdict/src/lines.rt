@@ -65,7 +65,7 @@ fn group_tag(text: &[u8], at: usize) -> IResult<bool>
     let name = b"#EXT-X-MEDIA";
     if scan::starts_with(text, at, name) {
         let after = at + name.len();
-        let dash = blocks::find_one(text, after, b'-');
+        let dash = blocks::find(text, after, b"-");
         if after < dash {
             return Ok((true, dash));
         }
@@ -179,7 +179,7 @@ pub fn is_master_playlist_tag_line(text: &[u8], at: usize) -> IResult<Option<(bo
     if text.len() <= at {
         return Err(Why::MissingByte);
     }
-    let hash = blocks::while_two(text, at, b'\r', b'\n');
+    let hash = blocks::while_in(text, at, b"\r\n");
     match tag_kind(text, hash) {
         Ok((kind, after)) => with_rest(text, after, Some((kind, hash))),
         Err(_) => with_rest(text, hash, None),

@@ -4,4 +4,4 @@ use Rattle.attributes.proofs.list.next_pair.Goals as goal
 
 pub returns : goal.returns
 unfolding next_pair
-returns c = rw (← c.while_two.ensures) c.key_value_pair.ensures
+returns c = rw (← c.while_in.ensures) c.key_value_pair.ensures

@@ -20,14 +20,14 @@ returns-then-is_one_of c = rw (lt-ltb _ _ c.if-text-at.false, sym c.is_one_of.en
 
 pub returns-then-text-name_end : goal.returns-then-text-name_end
 unfolding key_value_pair
-returns-then-text-name_end c = rw (lt-ltb _ _ c.if-text-at.false, sym c.is_one_of.ensures ∙ c.if-is_one_of.false, ← c.until_one-name_end.ensures, le-ltb _ _ c.if-text-name_end.true)
+returns-then-text-name_end c = rw (lt-ltb _ _ c.if-text-at.false, sym c.is_one_of.ensures ∙ c.if-is_one_of.false, ← c.until-name_end.ensures, le-ltb _ _ c.if-text-name_end.true)
 
 -- the name is there
 at_value : (c : Else-text-name_end) →
     let a = c.args in
-    let e = c.until_one-name_end.result in
+    let e = c.until-name_end.result in
     key_value_pair a.text.now a.at ≡ bind (alt quoted unquoted a.text.now (e + 1)) (λ right n. ok (pair (span a.at e) right) (after_tag (bytes ",") a.text.now n))
-at_value c = pair_named _ _ _ c.if-text-at.false (sym c.is_one_of.ensures ∙ c.if-is_one_of.false) c.until_one-name_end.ensures c.if-text-name_end.false
+at_value c = pair_named _ _ _ c.if-text-at.false (sym c.is_one_of.ensures ∙ c.if-is_one_of.false) c.until-name_end.ensures c.if-text-name_end.false
 
 pub returns : goal.returns
 returns c = rw (at_value (goal.at.returns c).Else-text-name_end, sym (c.in_ok-value.ensures), ← c.after_tag.ensures)

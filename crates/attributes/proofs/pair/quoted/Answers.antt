@@ -18,18 +18,18 @@ overflow_add-start c = omega (arith, tagged_within _ _ _ (omega arith) (opened (
 
 pub returns-then-end-start : goal.returns-then-end-start
 unfolding quoted
-returns-then-end-start c = rw (opened (goal.at.returns-then-end-start c).Then-starts_with, ← c.until_one-end.ensures, le-ltb _ _ c.if-end-start.true)
+returns-then-end-start c = rw (opened (goal.at.returns-then-end-start c).Then-starts_with, ← c.until-end.ensures, le-ltb _ _ c.if-end-start.true)
 
 pub overflow_add-result : goal.overflow_add-result
 overflow_add-result c = omega (arith, tagged_within _ _ _ (omega arith) (sym c.starts_with-then-starts_with.ensures ∙ c.if-starts_with-2.true))
 
 pub returns-then-starts_with-2 : goal.returns-then-starts_with-2
 unfolding quoted
-returns-then-starts_with-2 c = rw (opened (goal.at.returns-then-starts_with-2 c).Then-starts_with, ← c.until_one-end.ensures, lt-ltb _ _ c.if-end-start.false, sym c.starts_with-then-starts_with.ensures ∙ c.if-starts_with-2.true)
+returns-then-starts_with-2 c = rw (opened (goal.at.returns-then-starts_with-2 c).Then-starts_with, ← c.until-end.ensures, lt-ltb _ _ c.if-end-start.false, sym c.starts_with-then-starts_with.ensures ∙ c.if-starts_with-2.true)
 
 pub returns-else-starts_with-2 : goal.returns-else-starts_with-2
 unfolding quoted
-returns-else-starts_with-2 c = rw (opened (goal.at.returns-else-starts_with-2 c).Then-starts_with, ← c.until_one-end.ensures, lt-ltb _ _ c.if-end-start.false, sym c.starts_with-then-starts_with.ensures ∙ c.if-starts_with-2.false)
+returns-else-starts_with-2 c = rw (opened (goal.at.returns-else-starts_with-2 c).Then-starts_with, ← c.until-end.ensures, lt-ltb _ _ c.if-end-start.false, sym c.starts_with-then-starts_with.ensures ∙ c.if-starts_with-2.false)
 
 pub returns-else-starts_with : goal.returns-else-starts_with
 unfolding quoted

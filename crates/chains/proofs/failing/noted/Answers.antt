@@ -3,7 +3,7 @@ use Rattle.chains.proofs.Tests.{noted_true}
 use Rattle.chains.proofs.failing.noted.Goals as goal
 
 pub returns-then-equals-text : goal.returns-then-equals-text
-returns-then-equals-text c t b x = record { dead = noted_true _ _ _ x b c.until_one-equals.ensures; none = t.none }
+returns-then-equals-text c t b x = record { dead = noted_true _ _ _ x b c.until-equals.ensures; none = t.none }
 
 pub returns : goal.returns
-returns c t b x = record { dead = t.dead; none = noted_true _ _ _ x b c.until_one-equals.ensures }
+returns c t b x = record { dead = t.dead; none = noted_true _ _ _ x b c.until-equals.ensures }

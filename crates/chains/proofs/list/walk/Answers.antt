@@ -37,7 +37,7 @@ read : (c : In-Ok) →
     let l = c.loop-place in
     let a = c.args in
     next_pair a.text.now l.from ≡ ok (pair_of c.in-Ok.p) c.in-Ok.after
-read c = pair_behind _ _ _ _ _ c.while_two.ensures (rw c.in-Ok.is at c.pair_at-tried.ensures.pair_ok)
+read c = pair_behind _ _ _ _ _ c.while_in.ensures (rw c.in-Ok.is at c.pair_at-tried.ensures.pair_ok)
 
 pub loop-place-smaller : goal.loop-place-smaller
 loop-place-smaller c = pairs_fall _ _ _ _ (read (goal.at.loop-place-smaller c).In-Ok)
@@ -60,5 +60,5 @@ returns-in_default c =
     let l = c.loop-place in
     let u = l.invariant.1.1 t in
     let tried = c.pair_at-tried.ensures.tried_pair u.0 in
-    let none = none_behind _ l.from _ c.while_two.ensures (rw c.in_default.is at tried.0) in
+    let none = none_behind _ l.from _ c.while_in.ensures (rw c.in_default.is at tried.0) in
     (u.1 _ _ (list_none _ _ l.from _ _ none), tried.1)

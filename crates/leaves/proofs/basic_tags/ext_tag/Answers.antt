@@ -18,15 +18,15 @@ overflow_add-name c = omega (arith, tagged_within _ _ _ (omega arith) (marked (g
 
 pub returns-then-name_end-name : goal.returns-then-name_end-name
 unfolding ext_tag
-returns-then-name_end-name c = rw (marked (goal.at.returns-then-name_end-name c).Else-not-starts_with, ← c.until_three-name_end.ensures, le-ltb _ _ c.if-name_end-name.true)
+returns-then-name_end-name c = rw (marked (goal.at.returns-then-name_end-name c).Else-not-starts_with, ← c.until-name_end.ensures, le-ltb _ _ c.if-name_end-name.true)
 
 pub returns-then-text-rest_end : goal.returns-then-text-rest_end
 unfolding ext_tag
-returns-then-text-rest_end c = rw (marked (goal.at.returns-then-text-rest_end c).Else-not-starts_with, ← c.until_three-name_end.ensures, lt-ltb _ _ c.if-name_end-name.false, ← c.after_tag-rest.ensures, ← c.line_end-rest_end.ensures, le-ltb _ _ c.if-text-rest_end.true)
+returns-then-text-rest_end c = rw (marked (goal.at.returns-then-text-rest_end c).Else-not-starts_with, ← c.until-name_end.ensures, lt-ltb _ _ c.if-name_end-name.false, ← c.after_tag-rest.ensures, ← c.line_end-rest_end.ensures, le-ltb _ _ c.if-text-rest_end.true)
 
 pub returns : goal.returns
 unfolding ext_tag
-returns c = rw (marked (goal.at.returns c).Else-not-starts_with, ← c.until_three-name_end.ensures, lt-ltb _ _ c.if-name_end-name.false, ← c.after_tag-rest.ensures, ← c.line_end-rest_end.ensures, lt-ltb _ _ c.if-text-rest_end.false, ← c.part-rest.ensures)
+returns c = rw (marked (goal.at.returns c).Else-not-starts_with, ← c.until-name_end.ensures, lt-ltb _ _ c.if-name_end-name.false, ← c.after_tag-rest.ensures, ← c.line_end-rest_end.ensures, lt-ltb _ _ c.if-text-rest_end.false, ← c.part-rest.ensures)
 
 pub returns-then-not-starts_with : goal.returns-then-not-starts_with
 unfolding ext_tag

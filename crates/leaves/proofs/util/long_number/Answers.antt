@@ -7,7 +7,7 @@ use Rattle.leaves.proofs.util.long_number.Goals as goal
 use Rattle.leaves.proofs.util.long_number.Goals.{Joined-else-v-gt-SAFE, else-v-gt-SAFE-via-else-v-gt-SAFE, else-v-gt-SAFE-via-then-v-gt-SAFE+else-d-v}
 
 pub loop-i-init : goal.loop-i-init
-loop-i-init c = counted_zeros _ _ _ c.while_one-first.ensures
+loop-i-init c = counted_zeros _ _ _ c.while_in-first.ensures
 
 pub digit_value-d-requires : goal.digit_value-d-requires
 digit_value-d-requires c = sym c.is_digit.ensures ∙ c.if-not-is_digit.false
@@ -39,4 +39,4 @@ returns-then-not-is_digit c =
     (counted_stop _ _ _ _ c.loop-i.invariant c.loop-i-test.true (sym c.is_digit.ensures ∙ c.if-not-is_digit.true))
 
 pub returns : goal.returns
-returns c = rw c.parsed_to-2.ensures (counted_end _ _ _ _ c.loop-i.invariant c.loop-i-test.false (λ h. c.loop-i.auto.i-end (zeros_within _ _ _ c.while_one-first.ensures h)))
+returns c = rw c.parsed_to-2.ensures (counted_end _ _ _ _ c.loop-i.invariant c.loop-i-test.false (λ h. c.loop-i.auto.i-end (zeros_within _ _ _ c.while_in-first.ensures h)))

@@ -14,7 +14,7 @@ length c = sym c.in_ok-duration.ensures
 
 pub returns-then-text-title_end : goal.returns-then-text-title_end
 unfolding duration_title_tag
-returns-then-text-title_end c = rw (length (goal.at.returns-then-text-title_end c).In_ok-duration, ← c.after_tag-title.ensures, ← c.words_until_three-title_end.ensures, le-ltb _ _ c.if-text-title_end.true)
+returns-then-text-title_end c = rw (length (goal.at.returns-then-text-title_end c).In_ok-duration, ← c.after_tag-title.ensures, ← c.words_until-title_end.ensures, le-ltb _ _ c.if-text-title_end.true)
 
 pub returns : goal.returns
 unfolding duration_title_tag
@@ -22,7 +22,7 @@ returns c =
     rw (
       length (goal.at.returns c).In_ok-duration,
       ← c.after_tag-title.ensures,
-      ← c.words_until_three-title_end.ensures,
+      ← c.words_until-title_end.ensures,
       lt-ltb _ _ c.if-text-title_end.false,
       ← c.part-title.ensures,
       ← c.after_tag-after.ensures,

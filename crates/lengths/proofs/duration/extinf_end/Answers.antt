@@ -23,11 +23,11 @@ overflow_sub-too_many-2 c = (length (goal.at.overflow_sub-too_many-2 c).After-fr
 
 pub returns-then-text-title_end : goal.returns-then-text-title_end
 unfolding duration_title_tag
-returns-then-text-title_end c = rw ((length (goal.at.returns-then-text-title_end c).After-fraction_end-end).is, ← c.after_tag-title.ensures, ← c.words_until_three-title_end.ensures, le-ltb _ _ c.if-text-title_end.true)
+returns-then-text-title_end c = rw ((length (goal.at.returns-then-text-title_end c).After-fraction_end-end).is, ← c.after_tag-title.ensures, ← c.words_until-title_end.ensures, le-ltb _ _ c.if-text-title_end.true)
 
 pub returns : goal.returns
 unfolding duration_title_tag
 returns c =
     let l = length (goal.at.returns c).After-fraction_end-end in
-    rw (l.is, ← c.after_tag-title.ensures, ← c.words_until_three-title_end.ensures, lt-ltb _ _ c.if-text-title_end.false, ← c.after_tag.ensures)
-    (ap (λ (b : Bool). some (b, c.after_tag.result)) (l.long (span_or c.after_tag-title.result c.words_until_three-title_end.result)))
+    rw (l.is, ← c.after_tag-title.ensures, ← c.words_until-title_end.ensures, lt-ltb _ _ c.if-text-title_end.false, ← c.after_tag.ensures)
+    (ap (λ (b : Bool). some (b, c.after_tag.result)) (l.long (span_or c.after_tag-title.result c.words_until-title_end.result)))

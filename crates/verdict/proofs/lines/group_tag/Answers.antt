@@ -19,11 +19,11 @@ overflow_add-after c = omega (arith, tagged_within _ _ _ (omega arith) (there (g
 
 pub returns-then-after-dash : goal.returns-then-after-dash
 unfolding or_row
-returns-then-after-dash c = sym (undashed_here _ _ _ _ _ (there (goal.at.returns-then-after-dash c).Then-starts_with) c.find_one-dash.ensures c.if-after-dash.true)
+returns-then-after-dash c = sym (undashed_here _ _ _ _ _ (there (goal.at.returns-then-after-dash c).Then-starts_with) c.find-dash.ensures c.if-after-dash.true)
 
 pub returns-then-starts_with : goal.returns-then-starts_with
 unfolding or_row
-returns-then-starts_with c = sym (undashed_not _ _ _ _ _ (there (goal.at.returns-then-starts_with c).Then-starts_with) c.find_one-dash.ensures c.if-after-dash.false)
+returns-then-starts_with c = sym (undashed_not _ _ _ _ _ (there (goal.at.returns-then-starts_with c).Then-starts_with) c.find-dash.ensures c.if-after-dash.false)
 
 pub returns : goal.returns
 unfolding or_row

@@ -13,10 +13,10 @@ pub returns-in-Ok : goal.returns-in-Ok
 unfolding is_master_playlist_tag_line
 returns-in-Ok c =
     let kind = sym c.tag_kind.ensures ∙ ap (opt_kind _) c.in-Ok.is in
-    rw (lt-ltb _ _ c.if-text-at.false, ← c.while_two-hash.ensures, kind) c.with_rest.ensures
+    rw (lt-ltb _ _ c.if-text-at.false, ← c.while_in-hash.ensures, kind) c.with_rest.ensures
 
 pub returns-in-Err : goal.returns-in-Err
 unfolding is_master_playlist_tag_line
 returns-in-Err c =
     let none = sym c.tag_kind.ensures ∙ ap (opt_kind _) c.in-Err.is in
-    rw (lt-ltb _ _ c.if-text-at.false, ← c.while_two-hash.ensures, none) c.with_rest-in-Err.ensures
+    rw (lt-ltb _ _ c.if-text-at.false, ← c.while_in-hash.ensures, none) c.with_rest-in-Err.ensures
