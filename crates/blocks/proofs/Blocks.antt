@@ -59,22 +59,16 @@ none_all set (x ∷ block) h =
     not_true false e = refl
 
 -- ---- a run goes on past a block that passes
-pub run_past : (p : ℕ → Bool) (text : List ℕ) (a n : ℕ) → a + n ≤ length text → list_all p (take (a + n - a) (drop a text)) ≡ true → run_end p text a ≡ run_end p text (a + n)
+pub run_past : (p : ℕ → Bool) (text : List ℕ) (a n : ℕ) → a + n ≤ length text → list_all p (take n (drop a text)) ≡ true → run_end p text a ≡ run_end p text (a + n)
 run_past p text a n h e = run_on p text a (a + n) (omega arith) (λ j m l. (omega arith, at j m l))
   where
-    whole : a + n - a ≡ n
-    whole = omega arith
-
-    all : list_all p (take n (drop a text)) ≡ true
-    all = ap (λ (k : ℕ). list_all p (take k (drop a text))) (sym whole) ∙ e
-
     at : (j : ℕ) → a ≤ j → j < a + n → p (get_or text j 0) ≡ true
     at j m l =
         let len : n ≤ length (drop a text) = omega (arith, length-drop a text) in
         let z : a + (j - a) ≡ j = omega arith in
         let byte : get_or (take n (drop a text)) (j - a) 0 ≡ get_or text j 0 =
         get_or-take n (drop a text) (j - a) 0 (omega arith) ∙ get_or-drop a text (j - a) 0 ∙ ap (λ i. get_or text i 0) z in
-        ap p (sym byte) ∙ all_at p (take n (drop a text)) (j - a) 0 all (omega (arith, length-take n (drop a text), len))
+        ap p (sym byte) ∙ all_at p (take n (drop a text)) (j - a) 0 e (omega (arith, length-take n (drop a text), len))
 
 -- ---- what the tests of a block's bytes ask
 -- a byte above CR ends no line

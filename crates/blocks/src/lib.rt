@@ -7,25 +7,23 @@ ghost use Rattle.std.specs.List.{list_all};
 ghost use Rattle.std.specs.Fn.{FnReturnsAt};
 ghost use Rattle.text.specs.Nom.{bytes, is_ascii, is_digit, is_one_of, is_none_of, run_end, is_multispace};
 
-// Past the blocks of `size` bytes from `at` on that pass a test.
-fn passed_end<F: Fn(&[u8]) -> bool>(text: &[u8], at: usize, size: usize, passes: F) -> usize
-    requires some { 0 < size }
+// Past the blocks of `SIZE` bytes from `at` on that pass a test.
+fn passed_end<const SIZE: usize, F: Fn(&[u8]) -> bool>(text: &[u8], at: usize, passes: F) -> usize
+    requires size { (0 < SIZE) × (SIZE ≤ 64) }
     requires test { F.IsAlwaysCallable passes }
     ensures on { at ≤ result }
     ensures run { (p : ℕ → Bool) → ((block : List ℕ) → FnReturnsAt F.Fn passes block true → list_all p block ≡ true) → run_end p text.now at ≡ run_end p text.now result }
 {
-    if text.len() < size {
+    if text.len() < at {
         return at;
     }
-    let last = text.len() - size;
-    let mut i = at;
-    while i <= last {
-        if !passes(&text[i..i + size]) {
-            return i;
+    let (blocks, _) = text[at..].as_chunks::<SIZE>();
+    for (k, block) in blocks.iter().enumerate() {
+        if !passes(block) {
+            return at + SIZE * k;
         }
-        i += size;
     }
-    i
+    at + SIZE * blocks.len()
 }
 
 // Whether each byte of a block is one from `lo` to `hi`. All of them are looked at, with no way out before the last, so that the compiler takes many
@@ -50,7 +48,7 @@ const ABOVE_CR: u8 = 0x0E;
 fn line_blocks_end(text: &[u8], at: usize) -> usize
     ensures { run_end (is_none_of (bytes "\r\n")) text.now at ≡ run_end (is_none_of (bytes "\r\n")) text.now result }
 {
-    passed_end(text, at, LINE_BLOCK, |block| all_within(block, ABOVE_CR, 0xFF))
+    passed_end::<LINE_BLOCK, _>(text, at, |block| all_within(block, ABOVE_CR, 0xFF))
 }
 
 // The end of the line at `at`: the first CR or LF from there on, or where the text ends.
@@ -76,7 +74,7 @@ pub fn ascii_blocks(text: &[u8], at: usize) -> usize
     if LAST_ASCII < scan::byte_at(text, at, 0) {
         return at;
     }
-    passed_end(text, at, ASCII_BLOCK, |block| all_within(block, 0x00, LAST_ASCII))
+    passed_end::<ASCII_BLOCK, _>(text, at, |block| all_within(block, 0x00, LAST_ASCII))
 }
 
 // Past ASCII bytes.
@@ -119,7 +117,7 @@ fn none_of<const N: usize>(block: &[u8], set: &[u8; N]) -> bool
 pub fn find<const N: usize>(text: &[u8], at: usize, set: &[u8; N]) -> usize
     ensures { result ≡ run_end (is_none_of set.now) text.now at }
 {
-    let blocks = passed_end(text, at, SET_BLOCK, |block: &[u8]| -> bool
+    let blocks = passed_end::<SET_BLOCK, _>(text, at, |block: &[u8]| -> bool
         ensures { result ≡ true → list_all (is_none_of set.entry.now) block.now ≡ true }
     { none_of(block, set) });
     let words = words::none_of_end(text, blocks, set);
@@ -185,7 +183,7 @@ fn all_in<const N: usize>(block: &[u8], set: &[u8; N]) -> bool
 fn while_far<const N: usize>(text: &[u8], at: usize, set: &[u8; N]) -> usize
     ensures { result ≡ run_end (is_one_of set.now) text.now at }
 {
-    let blocks = passed_end(text, at, SET_BLOCK, |block: &[u8]| -> bool
+    let blocks = passed_end::<SET_BLOCK, _>(text, at, |block: &[u8]| -> bool
         ensures { result ≡ list_all (is_one_of set.entry.now) block.now }
     { all_in(block, set) });
     scan::while_in(text, blocks, set)
@@ -222,7 +220,7 @@ pub fn digits_end(text: &[u8], at: usize) -> usize
     ensures { result ≡ run_end is_digit text.now at }
 {
     if scan::is_digit(scan::byte_at(text, at, DIGIT_BLOCK - 1)) {
-        let blocks = passed_end(text, at, DIGIT_BLOCK, |block| all_within(block, b'0', b'9'));
+        let blocks = passed_end::<DIGIT_BLOCK, _>(text, at, |block| all_within(block, b'0', b'9'));
         return scan::digits_end(text, blocks);
     }
     scan::digits_end(text, at)

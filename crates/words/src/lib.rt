@@ -41,6 +41,7 @@ fn unmarked_end<F: Fn(u64) -> u64>(text: &[u8], at: usize, marks: F) -> usize
         return at;
     }
     let last = text.len() - WORD;
+    // A `while`: a `for` over `as_chunks` keeps two more counters, and cost a short name or title 10 to 30 %.
     let mut i = at;
     while i <= last {
         let found = marks(word_at(text, i));
