@@ -111,7 +111,13 @@ fn title(out: &mut [u8], at: usize, text: &[u8], title: Option<Span>) -> usize
     }
 }
 
-pub(crate) fn extinf_line(out: &mut [u8], at: usize, text: &[u8], ns: u64, name: Option<Span>) -> usize
+pub(crate) fn extinf_line(
+    out: &mut [u8],
+    at: usize,
+    text: &[u8],
+    ns: u64,
+    name: Option<Span>,
+) -> usize
     ensures { Puts out.old at (line_bytes (extinf_line ns (title_text text.now (part_of name)))) out.new result }
 {
     let start = put::copy(out, at, b"#EXTINF:");
