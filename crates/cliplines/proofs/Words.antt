@@ -2,15 +2,17 @@
 use mathlib.Core.Path.{◌≡◌, refl, sym, ◌∙◌}
 use mathlib.Core.Bool.{Bool, true, false, not, ◌&&◌}
 use mathlib.Core.List.{List, [], ◌++◌}
-use mathlib.Core.Option.{none, some}
 use Prim.Native.Nat.{ℕ, ◌/◌, ◌%◌, ◌<◌}
 use native.Mathlib.Omega.{arith}
 use lib.Dec.{eqb, ltb}
 use borrow.Author.Tests.{ltb-true, eqb-true, ne_eqb}
+use Rattle.std.specs.Prelude.{Option as Perhaps}
+use Rattle.std.specs.Bool.{then_some}
 use Rattle.text.specs.Nom.{Span, span}
 use Rattle.text.specs.Util.{range}
 use Rattle.text.specs.Spans.{shown}
 use Rattle.text.proofs.Laws.{and_left, and_right}
+use Rattle.leaves.specs.Answers.{offset_of}
 use Rattle.tables.specs.Layout as layout
 use Rattle.tables.specs.Table.{clip_word, has_flag}
 use Rattle.records.specs.Records.{optional, part_at, range_at, map_at, clip_at}
@@ -50,15 +52,15 @@ module _ (f n o : ℕ) where
   unfolding range_at
   range_none e = rw e no_line
 
-  pub range_with : has_flag f layout.has_range ≡ true → has_flag f layout.has_range_offset ≡ true
-      → lines_text (line_if byte_range_line (range_at f layout.has_range layout.has_range_offset n o)) ≡ line_bytes (byte_range_line (range n (some o)))
-  unfolding range_at
-  range_with e g = rw (e, g) (one_line (byte_range_line (range n (some o))))
+  -- its offset is there by its flag
+  offset_by : (b : Bool) → offset_of (then_some b o) ≡ optional b o
+  offset_by true = refl
+  offset_by false = refl
 
-  pub range_alone : has_flag f layout.has_range ≡ true → has_flag f layout.has_range_offset ≡ false
-      → lines_text (line_if byte_range_line (range_at f layout.has_range layout.has_range_offset n o)) ≡ line_bytes (byte_range_line (range n none))
+  pub range_there : {b : Bool} {p : Perhaps ℕ} → has_flag f layout.has_range ≡ true → b ≡ has_flag f layout.has_range_offset → p ≡ then_some b o
+      → line_bytes (byte_range_line (range n (offset_of p))) ≡ lines_text (line_if byte_range_line (range_at f layout.has_range layout.has_range_offset n o))
   unfolding range_at
-  range_alone e g = rw (e, g) (one_line (byte_range_line (range n none)))
+  range_there {b} e g h = rw (e, h, offset_by b, ← g) (sym (one_line (byte_range_line (range n (optional b o)))))
 
 -- ---- the text by words that were taken out of the table
 pub words_text : (text clips : List ℕ) (k : ℕ) {f n o ns : ℕ} {title uri : Span}

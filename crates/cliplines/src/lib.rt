@@ -51,13 +51,9 @@ fn tag_lines(
 fn clip(out: &mut [u8], text: &[u8], tags: &[u64], tag_count: usize, c: Clip) -> usize
     ensures { Puts out.old 0 (clip_text text.now tags.now tag_count (clip_seen c)) out.new result }
 {
-    let uri = c.uri;
     let segment = c.segment;
-    let map = segment.map;
-    let range = segment.byte_range;
-    let title = segment.title;
-    let range_at = lines::map_lines(out, 0, text, map);
-    let mark_at = lines::range_lines(out, range_at, range);
+    let range_at = lines::map_lines(out, 0, text, segment.map);
+    let mark_at = lines::range_lines(out, range_at, segment.byte_range);
     let tags_at = put::copy_where(
         out,
         mark_at,
@@ -65,8 +61,8 @@ fn clip(out: &mut [u8], text: &[u8], tags: &[u64], tag_count: usize, c: Clip) ->
         segment.discontinuity,
     );
     let extinf_at = tag_lines(out, tags_at, text, tags, tag_count, c.first, c.count);
-    let uri_at = lines::extinf_line(out, extinf_at, text, segment.length, title);
-    lines::uri_line(out, uri_at, text, uri)
+    let uri_at = lines::extinf_line(out, extinf_at, text, segment.length, segment.title);
+    lines::uri_line(out, uri_at, text, c.uri)
 }
 
 // Those of clip k of a table. Most clips have neither map, discontinuity nor unknown tags, and their lines are put by their words: no clip is made of these.

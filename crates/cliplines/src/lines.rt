@@ -61,12 +61,10 @@ fn map_range(out: &mut [u8], at: usize, r: Option<ByteRange>) -> usize
 fn map_line(out: &mut [u8], at: usize, text: &[u8], m: Map) -> usize
     ensures { Puts out.old at (line_bytes (map_line_of text.now (map_of m))) out.new result }
 {
-    let uri = m.uri;
-    let range = m.byte_range;
     let start = put::copy(out, at, b"#EXT-X-MAP:URI=\"");
-    let quote = put::shown(out, start, text, uri);
+    let quote = put::shown(out, start, text, m.uri);
     let comma = put::byte(out, quote, b'"');
-    let end = map_range(out, comma, range);
+    let end = map_range(out, comma, m.byte_range);
     put::byte(out, end, b'\n')
 }
 
@@ -96,11 +94,9 @@ fn tag_rest(out: &mut [u8], at: usize, text: &[u8], rest: Option<Span>) -> usize
 pub(crate) fn tag_line(out: &mut [u8], at: usize, text: &[u8], t: ExtTag) -> usize
     ensures { Puts out.old at (line_bytes (tag_line_of text.now (ext_tag_of t))) out.new result }
 {
-    let name = t.tag;
-    let rest = t.rest;
     let start = put::copy(out, at, b"#EXT-");
-    let colon = put::shown(out, start, text, name);
-    let end = tag_rest(out, colon, text, rest);
+    let colon = put::shown(out, start, text, t.tag);
+    let end = tag_rest(out, colon, text, t.rest);
     put::byte(out, end, b'\n')
 }
 
@@ -115,7 +111,13 @@ fn title(out: &mut [u8], at: usize, text: &[u8], title: Option<Span>) -> usize
     }
 }
 
-pub(crate) fn extinf_line(out: &mut [u8], at: usize, text: &[u8], ns: u64, name: Option<Span>) -> usize
+pub(crate) fn extinf_line(
+    out: &mut [u8],
+    at: usize,
+    text: &[u8],
+    ns: u64,
+    name: Option<Span>,
+) -> usize
     ensures { Puts out.old at (line_bytes (extinf_line ns (title_text text.now (part_of name)))) out.new result }
 {
     let start = put::copy(out, at, b"#EXTINF:");

@@ -54,18 +54,8 @@ fn range_lines(out: &mut [u8], at: usize, flags: u64, length: u64, offset: u64) 
     if !record::has_flag(flags, layout::HAS_RANGE) {
         return at;
     }
-    if record::has_flag(flags, layout::HAS_RANGE_OFFSET) {
-        let with_offset = ByteRange {
-            length,
-            offset: Some(offset),
-        };
-        return lines::range_line(out, at, with_offset);
-    }
-    let alone = ByteRange {
-        length,
-        offset: None,
-    };
-    lines::range_line(out, at, alone)
+    let offset = record::has_flag(flags, layout::HAS_RANGE_OFFSET).then_some(offset);
+    lines::range_line(out, at, ByteRange { length, offset })
 }
 
 pub(crate) fn plain_clip(out: &mut [u8], text: &[u8], clips: &[u64], k: usize) -> usize

@@ -1,6 +1,5 @@
 -- `clip_of` meets its contract: by its words where they tell that it is plain, else as a clip. Assumes nothing.
-use mathlib.Core.Path.{ap, sym, ◌∙◌}
-use Rattle.playlist.specs.Inside.Texts.{clip_text}
+use mathlib.Core.Path.{sym, ◌∙◌}
 use Rattle.put.proofs.Putting.{puts_as}
 use Rattle.cliplines.proofs.Words.{plain_text_lem}
 use Rattle.cliplines.proofs.clip_of.Goals as goal
