@@ -68,13 +68,7 @@ fn read_list<O: Write, E: Write>(say: &mut Streams<O, E>, text: &[u8], memory: &
     }
     match media::parse_media_playlist(text, &mut memory.clips, &mut memory.tags) {
         Err(r) => say.refuse(r.refusal.number(), r.place),
-        Ok(read) => make_file(
-            say,
-            text,
-            &memory.clips,
-            read.clips,
-            &mut memory.file,
-        ),
+        Ok(read) => make_file(say, text, &memory.clips, read.clips, &mut memory.file),
     }
 }
 

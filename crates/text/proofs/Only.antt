@@ -75,14 +75,14 @@ module _ {A B : Type 0} (view : A → B) (back : B → A) (h : (a : A) → back 
 
   abbrev res_back : Res B → Result (A × ℕ) whyᵈ.Why
   res_back (fail why) = Err (why_back why)
-  res_back (ok b n) = Ok (back b , n)
+  res_back (ok b n) = Ok (back b, n)
 
   pub res_only : Only (res_of view)
   res_only = only_by (res_of view) res_back go
     where
       go : (r : Result (A × ℕ) whyᵈ.Why) → res_back (res_of view r) ≡ r
       go (Err why) = ap Err (why_back_lem why)
-      go (Ok v) = ap (λ (a : A). Ok (a , v.1)) (h v.0)
+      go (Ok v) = ap (λ (a : A). Ok (a, v.1)) (h v.0)
 
 abbrev pub part_back : Option Span → Perhaps spanᵈ.Span
 part_back = perhaps_back span_of span_back span_back_lem
