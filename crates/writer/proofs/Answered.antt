@@ -1,4 +1,4 @@
--- What `write_to` leaves in the output, by what `may_write` answered: a refused call leaves it, and a text that has room fills its front. Assumes nothing.
+-- What `write_to` leaves in the output where `may_write` refuses nothing: a text that has room fills its front. Assumes nothing.
 use mathlib.Core.Path.{◌≡◌, refl, ap, ◌∙◌}
 use mathlib.Core.Bool.{Bool, true, false}
 use mathlib.Core.List.{List}
@@ -22,17 +22,7 @@ passed : {A : Type 0} (t : Bool) (ρ : Refusal) (p : ℕ) (rest : Answer A) {a :
 passed true ρ p rest e = (refl, e)
 passed false ρ p rest e = let z : ◌≡◌ {A = ℕ} 0 1 = cc in absurd (omega arith)
 
--- an answer by what it refuses
-refusal_back : {A : Type 0} {ρ : Refusal} {p : ℕ} (a : Answer A) → refused ρ p ≡ refusals a → refused ρ p ≡ a
-refusal_back (refused ρ p) e = cc
-refusal_back (given a) e = let z : ◌≡◌ {A = ℕ} 0 1 = cc in absurd (omega arith)
-
 module _ {R : Type 0} (view : R → Answer ℕ) (text : List ℕ) (h : Head) (clips : List ℕ) (n : ℕ) (tags : List ℕ) (m : ℕ) (out : List ℕ) (r : R) where
-  pub refuses : (ρ : Refusal) → view r ≡ refused ρ 0 → refused ρ 0 ≡ refusals (write_to text h clips n tags m (length out)) → WrittenAs text h clips n tags m view out out r
-  refuses ρ e q =
-      let a = refusal_back (write_to text h clips n tags m (length out)) q in
-      record { answered = e ∙ a; out_after = rw (← a) }
-
   module _ (q : given tt ≡ refusals (write_to text h clips n tags m (length out))) where
     -- it has room
     given_room : (v : ℕ) → write_to text h clips n tags m (length out) ≡ given v → (given (length (written_text text h clips n tags m)) ≡ given v) × (length (written_text text h clips n tags m) ≤ length out)
