@@ -3,7 +3,7 @@
 use crate::Probe;
 use crate::op::Op;
 use input::{Input, Stop};
-use ledgerfern::Head;
+use ledgerfern::{Head, Value};
 use std::io::Stdin;
 
 // A table as a record has it: how many entries it is said to hold, and the words that are lent.
@@ -43,9 +43,9 @@ impl Probe {
             Op::Reader => self.reader(),
             Op::Writer => self.writer(),
             Op::Total => self.total(),
-            Op::StartTick => self.start_tick(),
+            Op::StartTick => self.ticks(op, ledgerfern::ledgerfern_start_tick),
             Op::Window => self.window(),
-            Op::ClipTicks => self.clip_ticks(),
+            Op::ClipTicks => self.ticks(op, ledgerfern::ledgerfern_clip_ticks),
             Op::ClipAt => self.clip_at(),
             Op::CueWriter => self.cue_writer(),
             Op::CueReader => self.cue_reader(),
@@ -112,23 +112,18 @@ impl Probe {
         Ok(())
     }
 
-    fn start_tick(&mut self) -> Result<(), Stop> {
+    // A number of ticks, of the start tick or of a clip's ticks.
+    fn ticks<F>(&mut self, op: Op, ticks: F) -> Result<(), Stop>
+    where
+        F: Fn(usize, &[u64], u64, u64, usize) -> Value + Drop,
+        requires { F.IsAlwaysCallable ticks }
+    {
         let clips = take_table(&mut self.input, &mut self.clips)?;
         let rate = self.input.number()?;
         let turn = self.input.number()?;
         let clip = self.input.number()? as usize;
-        let given = ledgerfern::ledgerfern_start_tick(clips.entries, clips.words, rate, turn, clip);
-        self.lines.value(Op::StartTick, given);
-        Ok(())
-    }
-
-    fn clip_ticks(&mut self) -> Result<(), Stop> {
-        let clips = take_table(&mut self.input, &mut self.clips)?;
-        let rate = self.input.number()?;
-        let turn = self.input.number()?;
-        let clip = self.input.number()? as usize;
-        let given = ledgerfern::ledgerfern_clip_ticks(clips.entries, clips.words, rate, turn, clip);
-        self.lines.value(Op::ClipTicks, given);
+        self.lines
+            .value(op, ticks(clips.entries, clips.words, rate, turn, clip));
         Ok(())
     }
 
