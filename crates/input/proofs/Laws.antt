@@ -7,14 +7,14 @@ use mathlib.Core.Bool.{false≢true}
 use borrow.Author.Tests.{leb-true}
 use Rattle.input.specs.declared.Input.{Input}
 use Rattle.input.specs.declared.Stop.{Stop}
-use Rattle.input.specs.Held.{holds, happened}
+use Rattle.input.specs.Held.{room, holds, happened}
 use Rattle.input.specs.Numbers.{number_at}
 
 module _ {R : Type 0} (n : ℕ) (i : Input R) where
   -- the input goes on, and they lie within what is to be taken
   pub held : holds n i ≡ true → (i.stop ≡ None) × (i.at + n ≤ i.end)
   unfolding holds
-  held e = go i.stop (leb i.end 65536) (leb (i.at + n) i.end) (leb-true (i.at + n) i.end) e
+  held e = go i.stop (leb i.end room) (leb (i.at + n) i.end) (leb-true (i.at + n) i.end) e
     where
       go : (s : Option Stop) (b d : Bool) → (d ≡ true → i.at + n ≤ i.end) → (not (happened s) && (b && d)) ≡ true → (s ≡ None) × (i.at + n ≤ i.end)
       go None true d f e = (refl, f e)

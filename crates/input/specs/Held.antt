@@ -2,8 +2,10 @@
 use Rattle.std.specs.Prelude.{ℕ, ◌+◌, ◌≡◌, Bool, true, false, not, ◌&&◌, leb, Option, None, Some, Result, Ok, Err, IfSome, MatchResult}
 use Rattle.input.specs.declared.Stop.{Stop}
 use Rattle.input.specs.declared.Input.{Input}
-use Rattle.input.specs.declared.TheConstants.{ROOM}
 pub use Rattle.input.specs.Numbers.{number_at}
+
+abbrev pub room : ℕ
+room = 65536
 
 -- why it stopped is there
 abbrev pub happened : Option Stop → Bool
@@ -12,7 +14,7 @@ happened (Some stop) = true
 
 -- the input goes on, and so many bytes of the buffer are still to be taken
 unfoldable pub holds : {R : Type 0} → ℕ → Input R → Bool
-holds n input = not (happened input.stop) && (leb input.end ROOM && leb (input.at + n) input.end)
+holds n input = not (happened input.stop) && (leb input.end room && leb (input.at + n) input.end)
 
 -- they are taken: their number, the input after them, and the reader and the buffer as they were
 pub record TakenFrom {R : Type 0} (n : ℕ) (input₀ input : Input R) (answer : Result ℕ Stop) : Type 0 where

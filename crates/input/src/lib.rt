@@ -82,6 +82,7 @@ impl<R: Read> Input<R> {
         }
     }
 
+    // The input stops here.
     fn halt(&mut self, stop: Stop) -> Stop
         ensures same { result ≡ stop }
         ensures stops { self.new.stop ≡ Some stop }
@@ -101,7 +102,7 @@ impl<R: Read> Input<R> {
         Ok(byte)
     }
 
-    // The same byte by byte: a number that goes on in the next piece of the input.
+    // A number byte by byte: it goes on in the next piece of the input.
     fn number_by_bytes(&mut self) -> Result<u64, Stop>
         requires { self.old.stop ≡ None }
         ensures { Stops self.new result }

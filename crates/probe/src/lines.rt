@@ -1,226 +1,151 @@
 // What is printed. A line begins with op, number and place; a refused call has zeros for all that follows but the lent memory.
-use input::Stop;
+use crate::op::Op;
 use ledgerfern::{
     Cue, Head, On, Playing, Read, Room, Starts, Value, Verdict, Window, Windows, Written,
 };
-use output::{ROOM, Waits};
+use output::Output;
 use std::io::Stdout;
 
-pub fn text(stdout: &mut Stdout, to: &mut [u8; ROOM], waits: Waits, bytes: &[u8]) -> Waits {
-    output::put_bytes(stdout, to, waits, bytes)
+const HEX: &[u8; 16] = b"0123456789abcdef";
+
+#[derive(Drop)]
+pub struct Lines {
+    out: Output<Stdout>,
 }
 
-// The last line of a run that stopped inside a record.
-pub fn stopped(stdout: &mut Stdout, to: &mut [u8; ROOM], waits: Waits, stop: Stop) -> Waits {
-    match stop {
-        Stop::TooLarge => text(stdout, to, waits, b"too large\n"),
-        Stop::ReadFailed => text(stdout, to, waits, b"read failed\n"),
-        _ => text(stdout, to, waits, b"cut short\n"),
+impl Lines {
+    pub fn new(stdout: Stdout) -> Lines {
+        Lines {
+            out: Output::new(stdout),
+        }
     }
-}
 
-fn end_line(stdout: &mut Stdout, to: &mut [u8; ROOM], waits: Waits) -> Waits {
-    output::put_byte(stdout, to, waits, b'\n')
-}
-
-fn field(stdout: &mut Stdout, to: &mut [u8; ROOM], waits: Waits, number: u64) -> Waits {
-    let waits = output::put_byte(stdout, to, waits, b' ');
-    output::put_number(stdout, to, waits, number)
-}
-
-fn fields(stdout: &mut Stdout, to: &mut [u8; ROOM], waits: Waits, numbers: &[u64]) -> Waits {
-    let mut waits = waits;
-    let mut k = 0usize;
-    while k < numbers.len() {
-        waits = field(stdout, to, waits, numbers[k]);
-        k += 1;
+    // Whether it went needs no word: after a write that failed nothing is written, and a reader that finds no last line knows.
+    pub fn flush(&mut self) {
+        let _ = self.out.flush();
     }
-    waits
-}
 
-fn words(stdout: &mut Stdout, to: &mut [u8; ROOM], waits: Waits, words: &[u64]) -> Waits {
-    let waits = text(stdout, to, waits, b" |");
-    fields(stdout, to, waits, words)
-}
-
-// Op, number and place, and the values.
-fn answer(
-    stdout: &mut Stdout,
-    to: &mut [u8; ROOM],
-    waits: Waits,
-    op: u64,
-    number: u64,
-    place: u64,
-    values: &[u64],
-) -> Waits {
-    let waits = output::put_number(stdout, to, waits, op);
-    let waits = field(stdout, to, waits, number);
-    let waits = field(stdout, to, waits, place);
-    fields(stdout, to, waits, values)
-}
-
-pub fn verdict(stdout: &mut Stdout, to: &mut [u8; ROOM], waits: Waits, r: Verdict) -> Waits {
-    let waits = answer(stdout, to, waits, 1, r.number, r.place, &[r.master]);
-    end_line(stdout, to, waits)
-}
-
-pub fn room(stdout: &mut Stdout, to: &mut [u8; ROOM], waits: Waits, r: Room) -> Waits {
-    let waits = answer(stdout, to, waits, 15, r.number, r.place, &[r.clips, r.tags]);
-    end_line(stdout, to, waits)
-}
-
-pub fn value(stdout: &mut Stdout, to: &mut [u8; ROOM], waits: Waits, op: u64, r: Value) -> Waits {
-    let waits = answer(stdout, to, waits, op, r.number, r.place, &[r.value]);
-    end_line(stdout, to, waits)
-}
-
-pub fn on(stdout: &mut Stdout, to: &mut [u8; ROOM], waits: Waits, r: On) -> Waits {
-    let waits = answer(stdout, to, waits, 8, r.number, r.place, &[r.turn, r.clip]);
-    end_line(stdout, to, waits)
-}
-
-pub fn playing(stdout: &mut Stdout, to: &mut [u8; ROOM], waits: Waits, r: Playing) -> Waits {
-    let waits = answer(
-        stdout,
-        to,
-        waits,
-        13,
-        r.number,
-        r.place,
-        &[r.turn, r.clip, r.since, r.left],
-    );
-    end_line(stdout, to, waits)
-}
-
-// The answer of the call for all starts, and the table as the call left it.
-pub fn starts(
-    stdout: &mut Stdout,
-    to: &mut [u8; ROOM],
-    waits: Waits,
-    r: Starts,
-    out: &[u64],
-) -> Waits {
-    let waits = answer(stdout, to, waits, 14, r.number, r.place, &[r.clips]);
-    let waits = words(stdout, to, waits, out);
-    end_line(stdout, to, waits)
-}
-
-pub fn window(stdout: &mut Stdout, to: &mut [u8; ROOM], waits: Waits, r: Window) -> Waits {
-    let waits = answer(
-        stdout,
-        to,
-        waits,
-        6,
-        r.number,
-        r.place,
-        &[r.present, r.start, r.end],
-    );
-    end_line(stdout, to, waits)
-}
-
-// The answer of the call for all windows, and the table as the call left it.
-pub fn windows(
-    stdout: &mut Stdout,
-    to: &mut [u8; ROOM],
-    waits: Waits,
-    r: Windows,
-    out: &[u64],
-) -> Waits {
-    let waits = answer(stdout, to, waits, 29, r.number, r.place, &[r.clips]);
-    let waits = words(stdout, to, waits, out);
-    end_line(stdout, to, waits)
-}
-
-fn head(stdout: &mut Stdout, to: &mut [u8; ROOM], waits: Waits, h: Head) -> Waits {
-    let numbers = [
-        h.version_present,
-        h.version,
-        h.target_duration,
-        h.media_sequence,
-        h.discontinuity_sequence,
-        h.playlist_type,
-        h.type_start,
-        h.type_end,
-        h.end_list,
-        h.i_frames_only,
-        h.independent_segments,
-    ];
-    fields(stdout, to, waits, &numbers)
-}
-
-// The answer of the reader, and both tables as the call left them.
-pub fn reader(
-    stdout: &mut Stdout,
-    to: &mut [u8; ROOM],
-    waits: Waits,
-    r: Read,
-    clips: &[u64],
-    tags: &[u64],
-) -> Waits {
-    let waits = answer(
-        stdout,
-        to,
-        waits,
-        2,
-        r.number,
-        r.place,
-        &[r.clips, r.tags, r.stop],
-    );
-    let h = r.head;
-    let waits = head(stdout, to, waits, h);
-    let waits = words(stdout, to, waits, clips);
-    let waits = words(stdout, to, waits, tags);
-    end_line(stdout, to, waits)
-}
-
-fn hex_digit(n: u8) -> u8 {
-    match n {
-        0..=9 => b'0' + n,
-        10..=15 => b'a' + (n - 10),
-        _ => b'?',
+    pub fn text(&mut self, bytes: &[u8]) {
+        self.out.put_bytes(bytes);
     }
-}
 
-// In lower-case hex.
-fn hex(stdout: &mut Stdout, to: &mut [u8; ROOM], waits: Waits, bytes: &[u8]) -> Waits {
-    let mut waits = waits;
-    let mut k = 0usize;
-    while k < bytes.len() {
-        waits = output::put_byte(stdout, to, waits, hex_digit(bytes[k] / 16));
-        waits = output::put_byte(stdout, to, waits, hex_digit(bytes[k] % 16));
-        k += 1;
+    fn end(&mut self) {
+        self.out.put_byte(b'\n');
     }
-    waits
-}
 
-// The answer of a writer, of a playlist or of a cue file, and the output as the call left it.
-pub fn writer(
-    stdout: &mut Stdout,
-    to: &mut [u8; ROOM],
-    waits: Waits,
-    op: u64,
-    r: Written,
-    out: &[u8],
-) -> Waits {
-    let waits = answer(stdout, to, waits, op, r.number, r.place, &[r.length]);
-    let waits = text(stdout, to, waits, b" | ");
-    let waits = if out.len() == 0 {
-        text(stdout, to, waits, b"-")
-    } else {
-        hex(stdout, to, waits, out)
-    };
-    end_line(stdout, to, waits)
-}
+    fn fields(&mut self, numbers: &[u64]) {
+        for number in numbers {
+            self.out.put_byte(b' ');
+            self.out.put_number(*number);
+        }
+    }
 
-pub fn cue(stdout: &mut Stdout, to: &mut [u8; ROOM], waits: Waits, r: Cue) -> Waits {
-    let waits = answer(
-        stdout,
-        to,
-        waits,
-        10,
-        r.number,
-        r.place,
-        &[r.start, r.uri_start, r.uri_end],
-    );
-    end_line(stdout, to, waits)
+    fn words(&mut self, words: &[u64]) {
+        self.text(b" |");
+        self.fields(words);
+    }
+
+    // Op, number and place, and the values.
+    fn answer(&mut self, op: Op, number: u64, place: u64, values: &[u64]) {
+        self.out.put_number(op as u64);
+        self.fields(&[number, place]);
+        self.fields(values);
+    }
+
+    // An answer that is a line by itself.
+    fn line(&mut self, op: Op, number: u64, place: u64, values: &[u64]) {
+        self.answer(op, number, place, values);
+        self.end();
+    }
+
+    // An answer, and a table as the call left it.
+    fn table(&mut self, op: Op, number: u64, place: u64, clips: u64, table: &[u64]) {
+        self.answer(op, number, place, &[clips]);
+        self.words(table);
+        self.end();
+    }
+
+    pub fn verdict(&mut self, r: Verdict) {
+        self.line(Op::Verdict, r.number, r.place, &[r.master]);
+    }
+
+    pub fn room(&mut self, r: Room) {
+        self.line(Op::Room, r.number, r.place, &[r.clips, r.tags]);
+    }
+
+    pub fn value(&mut self, op: Op, r: Value) {
+        self.line(op, r.number, r.place, &[r.value]);
+    }
+
+    pub fn on(&mut self, r: On) {
+        self.line(Op::ClipAt, r.number, r.place, &[r.turn, r.clip]);
+    }
+
+    pub fn playing(&mut self, r: Playing) {
+        let values = [r.turn, r.clip, r.since, r.left];
+        self.line(Op::PlayingAt, r.number, r.place, &values);
+    }
+
+    pub fn starts(&mut self, r: Starts, out: &[u64]) {
+        self.table(Op::Starts, r.number, r.place, r.clips, out);
+    }
+
+    pub fn window(&mut self, r: Window) {
+        let values = [r.present, r.start, r.end];
+        self.line(Op::Window, r.number, r.place, &values);
+    }
+
+    pub fn windows(&mut self, r: Windows, out: &[u64]) {
+        self.table(Op::Windows, r.number, r.place, r.clips, out);
+    }
+
+    pub fn cue(&mut self, r: Cue) {
+        let values = [r.start, r.uri_start, r.uri_end];
+        self.line(Op::CueReader, r.number, r.place, &values);
+    }
+
+    fn head(&mut self, h: Head) {
+        self.fields(&[
+            h.version_present,
+            h.version,
+            h.target_duration,
+            h.media_sequence,
+            h.discontinuity_sequence,
+            h.playlist_type,
+            h.type_start,
+            h.type_end,
+            h.end_list,
+            h.i_frames_only,
+            h.independent_segments,
+        ]);
+    }
+
+    // The answer of the reader, and both tables as the call left them.
+    pub fn reader(&mut self, r: Read, clips: &[u64], tags: &[u64]) {
+        let values = [r.clips, r.tags, r.stop];
+        self.answer(Op::Reader, r.number, r.place, &values);
+        self.head(r.head);
+        self.words(clips);
+        self.words(tags);
+        self.end();
+    }
+
+    // In lower-case hex.
+    fn hex(&mut self, bytes: &[u8]) {
+        for byte in bytes {
+            self.out.put_byte(HEX[usize::from(*byte / 16)]);
+            self.out.put_byte(HEX[usize::from(*byte % 16)]);
+        }
+    }
+
+    // The answer of a writer, of a playlist or of a cue file, and the output as the call left it.
+    pub fn writer(&mut self, op: Op, r: Written, out: &[u8]) {
+        self.answer(op, r.number, r.place, &[r.length]);
+        self.text(b" | ");
+        if out.is_empty() {
+            self.text(b"-");
+        }
+        self.hex(out);
+        self.end();
+    }
 }
