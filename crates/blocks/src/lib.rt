@@ -117,9 +117,13 @@ fn none_of<const N: usize>(block: &[u8], set: &[u8; N]) -> bool
 pub fn find<const N: usize>(text: &[u8], at: usize, set: &[u8; N]) -> usize
     ensures { result ≡ run_end (is_none_of set.now) text.now at }
 {
-    let blocks = passed_end::<SET_BLOCK, _>(text, at, |block: &[u8]| -> bool
-        ensures { result ≡ true → list_all (is_none_of set.entry.now) block.now ≡ true }
-    { none_of(block, set) });
+    let blocks = passed_end::<SET_BLOCK, _>(
+        text,
+        at,
+        |block: &[u8]| -> bool
+            ensures { result ≡ true → list_all (is_none_of set.entry.now) block.now ≡ true }
+        { none_of(block, set) },
+    );
     let words = words::none_of_end(text, blocks, set);
     scan::until(text, words, set)
 }
@@ -184,9 +188,13 @@ fn all_in<const N: usize>(block: &[u8], set: &[u8; N]) -> bool
 fn while_far<const N: usize>(text: &[u8], at: usize, set: &[u8; N]) -> usize
     ensures { result ≡ run_end (is_one_of set.now) text.now at }
 {
-    let blocks = passed_end::<SET_BLOCK, _>(text, at, |block: &[u8]| -> bool
-        ensures { result ≡ list_all (is_one_of set.entry.now) block.now }
-    { all_in(block, set) });
+    let blocks = passed_end::<SET_BLOCK, _>(
+        text,
+        at,
+        |block: &[u8]| -> bool
+            ensures { result ≡ list_all (is_one_of set.entry.now) block.now }
+        { all_in(block, set) },
+    );
     scan::while_in(text, blocks, set)
 }
 

@@ -87,7 +87,11 @@ fn marks_of_any<const N: usize>(word: u64, set: &[u8; N]) -> u64
 pub fn none_of_end<const N: usize>(text: &[u8], at: usize, set: &[u8; N]) -> usize
     ensures { run_end (is_none_of set.now) text.now at ≡ run_end (is_none_of set.now) text.now result }
 {
-    unmarked_end(text, at, |word: u64| -> u64
-        ensures { Unmarked (is_none_of set.entry.now) word result }
-    { marks_of_any(word, set) })
+    unmarked_end(
+        text,
+        at,
+        |word: u64| -> u64
+            ensures { Unmarked (is_none_of set.entry.now) word result }
+        { marks_of_any(word, set) },
+    )
 }
