@@ -184,7 +184,6 @@ fn all_in<const N: usize>(block: &[u8], set: &[u8; N]) -> bool
 }
 
 // Past bytes that are one of `set`, by blocks and then byte by byte.
-#[inline(never)]
 fn while_far<const N: usize>(text: &[u8], at: usize, set: &[u8; N]) -> usize
     ensures { result ≡ run_end (is_one_of set.now) text.now at }
 {
@@ -199,6 +198,7 @@ fn while_far<const N: usize>(text: &[u8], at: usize, set: &[u8; N]) -> usize
 }
 
 // Past bytes that are one of `set`. Most runs of them are empty, and the first byte tells so at once: as in `until`, that test stands in the callers.
+#[inline(always)]
 pub fn while_in<const N: usize>(text: &[u8], at: usize, set: &[u8; N]) -> usize
     ensures { result ≡ run_end (is_one_of set.now) text.now at }
 {
