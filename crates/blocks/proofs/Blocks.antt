@@ -2,7 +2,7 @@
 use mathlib.Core.Path.{◌≡◌, refl, sym, ◌∙◌, ap}
 use mathlib.Core.Bool.{Bool, true, false, not, ◌&&◌, ◌||◌}
 use mathlib.Core.List.{List, [], ◌∷◌}
-use Prim.Native.Nat.{ℕ, zero, suc, ◌+◌, ◌-◌, ◌*◌, ◌≤◌, ◌<◌}
+use Prim.Native.Nat.{ℕ, zero, suc, ◌+◌, ◌-◌, ◌≤◌, ◌<◌}
 use native.Mathlib.Nat.{add-zero, le_of_suc-le-suc, not-suc-le-zero}
 use native.Mathlib.Decide.{dec_le}
 use native.Mathlib.Omega.{arith}
@@ -10,10 +10,10 @@ use lib.Dec.{leb, eqb}
 use lib.ListN.{length, get_or, take, drop, length-drop, length-take}
 use lib.Seq.{get_or-take, get_or-drop, take-length}
 use borrow.Author.Tests.{ne_eqb, leb-true}
-use Rattle.std.specs.List.{list_all, list_any}
+use Rattle.std.specs.List.{list_all}
 use Rattle.std.proofs.lemmas.List.Folds.{list_all_more, list_any_more}
-use Rattle.text.specs.Nom.{bytes, is_digit, is_one_of, is_none_of, run_end}
-use Rattle.text.proofs.Laws.{and_left, and_right, or_false, run_out, run_stop}
+use Rattle.text.specs.Nom.{bytes, is_one_of, is_none_of, run_end}
+use Rattle.text.proofs.Laws.{and_left, and_right, run_out, run_stop}
 use Rattle.text.proofs.Stretches.{run_on}
 use Rattle.scan.proofs.Sets.{any}
 use Rattle.words.proofs.Eight.{none_of_all}

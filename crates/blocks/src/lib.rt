@@ -184,6 +184,7 @@ fn all_in<const N: usize>(block: &[u8], set: &[u8; N]) -> bool
 }
 
 // Past bytes that are one of `set`, by blocks and then byte by byte.
+#[inline(never)]
 fn while_far<const N: usize>(text: &[u8], at: usize, set: &[u8; N]) -> usize
     ensures { result ≡ run_end (is_one_of set.now) text.now at }
 {
@@ -197,27 +198,28 @@ fn while_far<const N: usize>(text: &[u8], at: usize, set: &[u8; N]) -> usize
     scan::while_in(text, blocks, set)
 }
 
-// Past bytes that are one of `set`. Most runs of them are empty, and the first byte tells so at once.
+// Past bytes that are one of `set`. Most runs of them are empty, and the first byte tells so at once; of the others most have one byte. As in `until`, these
+// tests stand in the callers.
 pub fn while_in<const N: usize>(text: &[u8], at: usize, set: &[u8; N]) -> usize
     ensures { result ≡ run_end (is_one_of set.now) text.now at }
 {
     if !is_in(set, scan::byte_at(text, at, 0)) {
         return at;
     }
+    if !is_in(set, scan::byte_at(text, at, 1)) {
+        return scan::while_in(text, at, set);
+    }
     while_far(text, at, set)
 }
 
-// Past blanks: spaces, tabs, CRs and LFs. Most runs of them are empty, and a byte above the space tells so at once; of the others most have one blank.
+// Past blanks: spaces, tabs, CRs and LFs. A byte above the space tells at once that there are none.
 pub fn multispace0(text: &[u8], at: usize) -> usize
     ensures { result ≡ run_end is_multispace text.now at }
 {
     if b' ' < scan::byte_at(text, at, 0) {
         return at;
     }
-    if b' ' < scan::byte_at(text, at, 1) {
-        return scan::while_in(text, at, b" \t\r\n");
-    }
-    while_far(text, at, b" \t\r\n")
+    while_in(text, at, b" \t\r\n")
 }
 
 // How many digits are passed in one go.

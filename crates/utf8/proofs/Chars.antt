@@ -4,7 +4,7 @@ use mathlib.Core.Path.{◌≡◌, sym}
 use mathlib.Core.List.{List}
 use native.Mathlib.Omega.{arith}
 use lib.ListN.{length}
-use Rattle.std.specs.Prelude.{Option, None, Some}
+use Rattle.std.specs.Prelude.{None, Some}
 use Rattle.text.specs.Why.{missing_byte}
 use Rattle.text.specs.Utf8.{utf8_char, utf8_end}
 use Rattle.text.proofs.Utf8.{takes_utf8_char, end_on, end_here}

@@ -1,4 +1,4 @@
-use Rattle.std.proofs.Common.{◌≡◌, ◌<◌, ℕ, true, not, eqb, get_or}
+use Rattle.std.proofs.Common.{◌≡◌, true, not, eqb, get_or}
 use Rattle.std.specs.List.{list_all}
 use Rattle.text.proofs.Stretches.{All}
 use Rattle.blocks.proofs.none_of.Given as goal

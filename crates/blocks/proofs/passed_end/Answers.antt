@@ -1,5 +1,5 @@
 -- `blocks::passed_end`: the run from here is the run from the start. Assumes nothing.
-use Rattle.std.proofs.Common.{arith, ◌∙◌, ap, refl, [], ◌*◌, ◌+◌, ◌≡◌, ◌<◌, sym, subst, length, get_or, true}
+use Rattle.std.proofs.Common.{arith, ◌∙◌, ap, refl, ◌*◌, ◌+◌, ◌≡◌, ◌<◌, sym, subst, get_or, true}
 use Rattle.std.specs.List.{list_all}
 use Rattle.text.specs.Nom.{run_end}
 use Rattle.blocks.proofs.Pieces.{piece_at, piece_within, piece_end}

@@ -1,5 +1,5 @@
 -- The loop's invariant: the characters from here on end where those from the start do. Assumes nothing.
-use mathlib.Core.Path.{refl, ◌∙◌}
+use mathlib.Core.Path.{◌∙◌}
 use native.Mathlib.Omega.{arith}
 use Rattle.utf8.proofs.Chars.{char_room, end_step}
 use Rattle.utf8.proofs.first_end.Goals as goal

@@ -1,6 +1,5 @@
 -- `words::unmarked_end`: the run goes on past each word, up to the first byte that is marked. Assumes nothing.
 use Rattle.std.proofs.Common.{◌∙◌, arith}
-use lib.Count.{trailing_le}
 use Rattle.words.proofs.Eight.{run_to_mark, run_past_word}
 use Rattle.words.proofs.unmarked_end.Goals as goal
 
