@@ -25,6 +25,7 @@ const RANGE_MOST: usize = 61;
 const MAP_MOST: usize = 74;
 
 // The word at a place of clip k, which the table holds whole.
+// (Each crate has its own: a public function may ask nothing of its callers, and the public one tests its index.)
 fn held_word(clips: &[u64], k: usize, place: usize) -> u64
     requires holds { Holds clips.now k }
     requires place_lt_clip_words { place < layout.clip_words }
