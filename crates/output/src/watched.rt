@@ -1,4 +1,5 @@
-// A writer that keeps why a write to it failed, so that a program can say it.
+// A writer that keeps why a write to it failed, so that a program can say it. It is a type of its own: std's `write` keeps known bytes on `Err`, which an
+// `Output` that has lost a full buffer could not promise.
 ghost use Rattle.std.specs.Prelude.{◌≡◌, ◌≢◌, None, Some, IsErr, IfErr, OnOk, []};
 ghost use Rattle.std.specs.Io.{WritesAtMost};
 ghost use Rattle.std.specs.Io.KnownBytes.{Appends, Keeps, WriteAppends};

@@ -51,7 +51,8 @@ pub fn bits_agree(clips: &[u64], k: usize) -> bool
     bits == binary32::seconds_bits(length)
 }
 
-// The word at a place of clip k, which the table holds whole: no test is left to make.
+// The word at a place of clip k, which the table holds whole: no test is left to make. `measure` and `cliplines` have it too: a public function may ask nothing
+// of its callers, and the public one tests its index.
 fn held_word(clips: &[u64], k: usize, place: usize) -> u64
     requires holds { Holds clips.now k }
     requires place_lt_clip_words { place < layout.clip_words }

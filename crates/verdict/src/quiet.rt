@@ -39,6 +39,7 @@ pub(crate) fn quiet_end(text: &[u8], at: usize) -> usize
     if scan::byte_at(text, at, 0) == b'#' {
         return at;
     }
+    // A `while`: a block is passed whole.
     let mut i = at;
     while i <= last {
         if block_quiet(text, i, QUIET_BLOCK) {
