@@ -12,7 +12,6 @@ use lib.ListN.{set, length, take, drop, get_or, length-set, length-take, length-
 use lib.Seq.{sets, sets-eq, length-take-le, take_all, take_at, drop-cons, drop-set-add, take-set-le}
 use borrow.Author.Tests.{lt-ltb, le-ltb, ltb-true, leb-true, leb-false}
 use borrow.Rule.Slice.PartMut.{put_mid}
-use Rattle.std.proofs.lemmas.Slice.{put_mid-paste}
 use Rattle.put.specs.Put.{Output, up_to, put_byte, put, Puts}
 use Rattle.put.specs.Inside.Room.{Room}
 
@@ -52,12 +51,6 @@ puts_fit out at [] h = record { after = rw add-zero }
 puts_fit out at (b ∷ bs) h =
     let e : at + suc (length bs) ≡ suc at + length bs = omega arith in
     record { after = rw (lt-ltb at (length out) (omega arith), e, add-one at) (puts_fit (set out at b) (suc at) bs (omega (arith, length-set out at b))).after }
-
--- bytes copied in the place of as many
-pub puts_copied : (out : List ℕ) (at n : ℕ) (bs ys : List ℕ) → ys ≡ bs → n ≡ length bs → Room out at bs → Puts out at bs (put_mid at n out ys) (at + length bs)
-puts_copied out at n bs ys e k h =
-    let same : put_mid at n out ys ≡ sets out at bs = put_mid-paste at n out ys bs (length bs) e (sym k) refl ∙ rw (sets-eq bs out at h, take_all (length bs) bs (omega arith)) in
-    record { after = ap (λ (o : List ℕ). up_to o (at + length bs)) same ∙ (puts_fit out at bs h).after }
 
 -- ---- what is never lost: the output's length, and a place within it
 abbrev out_of : Output → List ℕ
