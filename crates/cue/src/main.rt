@@ -9,10 +9,11 @@ ghost use Rattle.printing.specs.Said.{SaidAs, SaysAs, SendsAs, Tells};
 ghost use Rattle.cue.specs.File as rule;
 ghost use Rattle.cue.specs.Inside.Words as inside;
 
+use input::watched::Watched;
 use input::whole;
+use input::whole::Cut;
 use printing::Failed;
 use printing::streams::Streams;
-use std::io;
 use std::io::{Read, Write};
 use tables::{Refusal, layout};
 
@@ -78,7 +79,7 @@ fn run<I: Read, O: Write, E: Write>(
     say: &mut Streams<O, E>,
     text: &mut [u8],
     memory: &mut Memory,
-) -> io::Result<usize>
+) -> Result<usize, Cut>
     ensures came { IfOk result (λ count. IfSome (I.remaining stdin.old) (λ bytes. take count text.new ≡ take (length text.new) bytes)) }
     ensures says { SaysAs say.old say.new result (λ count. rule.cue_file (take count text.new)) }
     ensures sent { IfOk result (λ count. SendsAs say.old say.new O.contents E.contents (rule.cue_file (take count text.new))) }
@@ -98,13 +99,13 @@ fn write_all<I: Read, O: Write, E: Write>(
     ensures { OnOk result (IfSome (I.remaining stdin.old) (λ bytes.
         Tells (held O.contents say.old.out) (O.contents (behind say.new.out)) (held E.contents say.old.err) (E.contents (behind say.new.err)) (rule.cue_file bytes))) }
 {
-    run(stdin, say, text, memory).map_err(Failed::Read)?;
+    run(stdin, say, text, memory).map_err(|cut| Failed::Read(cut.error))?;
     say.flush().map_err(Failed::Write)?;
     Ok(())
 }
 
 fn main(rt: HostRuntime) {
-    let mut stdin = rt.stdin();
+    let mut stdin = Watched::new(rt.stdin());
     let mut say = Streams::new(rt.stdout(), rt.stderr());
     let mut text = [0u8; TEXT_ROOM];
     let mut memory = Memory {
@@ -114,7 +115,7 @@ fn main(rt: HostRuntime) {
     };
     match write_all(&mut stdin, &mut say, &mut text, &mut memory) {
         Ok(()) => {}
-        Err(Failed::Read(e)) => printing::tell(rt, "cue: read", e),
+        Err(Failed::Read(e)) => printing::tell(rt, "cue: read", stdin.error.unwrap_or(e)),
         Err(Failed::Write(e)) => printing::tell(rt, "cue: write", e),
     }
 }

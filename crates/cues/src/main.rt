@@ -8,10 +8,11 @@ ghost use Rattle.printing.specs.Said.{SaidAs, SaysAs, SendsAs, Tells};
 ghost use Rattle.cues.specs.Shown as rule;
 
 use cue_reader::all::Cues;
+use input::watched::Watched;
 use input::whole;
+use input::whole::Cut;
 use printing::Failed;
 use printing::streams::Streams;
-use std::io;
 use std::io::{Read, Write};
 use tables::Refusal;
 
@@ -42,7 +43,7 @@ fn run<I: Read, O: Write, E: Write>(
     stdin: &mut I,
     say: &mut Streams<O, E>,
     file: &mut [u8],
-) -> io::Result<usize>
+) -> Result<usize, Cut>
     ensures came { IfOk result (λ count. IfSome (I.remaining stdin.old) (λ bytes. take count file.new ≡ take (length file.new) bytes)) }
     ensures says { SaysAs say.old say.new result (λ count. rule.shown_file (take count file.new)) }
     ensures sent { IfOk result (λ count. SendsAs say.old say.new O.contents E.contents (rule.shown_file (take count file.new))) }
@@ -61,18 +62,18 @@ fn show<I: Read, O: Write, E: Write>(
     ensures { OnOk result (IfSome (I.remaining stdin.old) (λ bytes.
         Tells (held O.contents say.old.out) (O.contents (behind say.new.out)) (held E.contents say.old.err) (E.contents (behind say.new.err)) (rule.shown_file bytes))) }
 {
-    run(stdin, say, file).map_err(Failed::Read)?;
+    run(stdin, say, file).map_err(|cut| Failed::Read(cut.error))?;
     say.flush().map_err(Failed::Write)?;
     Ok(())
 }
 
 fn main(rt: HostRuntime) {
-    let mut stdin = rt.stdin();
+    let mut stdin = Watched::new(rt.stdin());
     let mut say = Streams::new(rt.stdout(), rt.stderr());
     let mut file = [0u8; FILE_ROOM];
     match show(&mut stdin, &mut say, &mut file) {
         Ok(()) => {}
-        Err(Failed::Read(e)) => printing::tell(rt, "cues: read", e),
+        Err(Failed::Read(e)) => printing::tell(rt, "cues: read", stdin.error.unwrap_or(e)),
         Err(Failed::Write(e)) => printing::tell(rt, "cues: write", e),
     }
 }

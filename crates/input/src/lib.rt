@@ -2,12 +2,13 @@
 // A stop holds: once the input stopped, every call answers that stop, and nothing is read.
 #![tactic(auto)]
 
-ghost use Rattle.std.specs.Prelude.{◌≡◌, None, true, ◌≤◌, ◌<◌, length, IfOk, OnOk};
+ghost use Rattle.std.specs.Prelude.{◌≡◌, None, Some, true, ◌≤◌, ◌<◌, length, IfOk, OnOk};
 ghost use Rattle.input.specs.Numbers.{number_at};
 ghost use Rattle.input.specs.declared.TheConstants.{ROOM};
 
 use std::io::Read;
 
+pub mod watched; // a reader that keeps why it failed
 pub mod whole; // an input that fits into memory, at once
 
 // What a buffer holds.
@@ -40,8 +41,14 @@ fn number_of(bytes: [u8; 8]) -> u64
 }
 
 impl<R> Input<R> {
+    ghost use Rattle.std.specs.List.{slice_range};
+    ghost use Rattle.input.specs.Held as rule;
+
+    // Before the first read.
     pub fn new(from: R) -> Input<R>
-        ensures { result.stop ≡ None }
+        ensures stop { result.stop ≡ None }
+        ensures left { (result.at ≡ 0) × (result.end ≡ 0) }
+        ensures before { result.from ≡ from }
     {
         Input {
             from,
@@ -49,6 +56,56 @@ impl<R> Input<R> {
             at: 0,
             end: 0,
             stop: None,
+        }
+    }
+
+    // Over a buffer of which what lies from `at` to `end` is still to be taken, or nothing where the buffer has no such part.
+    pub fn over(from: R, buffer: [u8; ROOM], at: usize, end: usize, stop: Option<Stop>) -> Input<R>
+        ensures left { (result.at, result.end) ≡ rule.part_left at end }
+        ensures stop { result.stop ≡ stop }
+        ensures buffer { result.buffer ≡ buffer }
+        ensures before { result.from ≡ from }
+    {
+        let (at, end) = if at <= end && end <= ROOM {
+            (at, end)
+        } else {
+            (0, 0)
+        };
+        Input {
+            from,
+            buffer,
+            at,
+            end,
+            stop,
+        }
+    }
+
+    // What of the buffer is still to be taken.
+    pub fn left(&self) -> &[u8]
+        ensures { result.now ≡ slice_range self.now.buffer self.now.at self.now.end }
+    {
+        &self.buffer[self.at..self.end]
+    }
+
+    // Why nothing more can be taken.
+    pub fn stop(&self) -> Option<Stop>
+        ensures { result ≡ self.now.stop }
+    {
+        self.stop
+    }
+
+    // An input that stops here: nothing of its buffer is left.
+    pub fn stopped(self, stop: Stop) -> Input<R>
+        ensures left { (result.at ≡ 0) × (result.end ≡ 0) }
+        ensures stop { result.stop ≡ Some stop }
+        ensures before { result.from ≡ self.from }
+    {
+        Input {
+            from: self.from,
+            buffer: self.buffer,
+            at: 0,
+            end: 0,
+            stop: Some(stop),
         }
     }
 }

@@ -1,4 +1,4 @@
-// A head from its eleven numbers, for a call that takes one: the way back from `numbers::of_head`.
+// A head from its eleven numbers, for a call that takes one: the way back from `From<head::Head> for Head`.
 ghost use Rattle.std.specs.Prelude.{◌≡◌};
 ghost use Rattle.assembly.specs.Answers.{version_of, head_type_of, head_seen};
 ghost use Rattle.ledgerfern.specs.Heads as rule;

@@ -5,7 +5,9 @@ use Prim.Native.Nat.{ℕ, ◌+◌, ◌-◌, ◌≤◌, ◌<◌}
 use native.Mathlib.Omega.{arith}
 use native.Mathlib.Numerals.{add-one}
 use lib.ListN.{set, length, drop, take, get_or, length-take, length-append}
-use lib.Seq.{take-suc, take-suc-set, take_all}
+use lib.Seq.{take-suc, take-suc-set, take_all, take-append-add, take-append-le}
+use borrow.Rule.Slice.PartMut.{put_mid, post_of}
+use Rattle.std.proofs.Common.{length-take-le}
 use borrow.Author.Tests.{lt-ltb, le-leb, lt-leb}
 use Rattle.std.specs.Prelude.{Option, None, Some, ◌≢◌}
 use Rattle.std.specs.declared.io.Error.{Error}
@@ -46,6 +48,13 @@ all_wait w (b ∷ bytes) h =
 pub more_wait : (w w' bytes : List ℕ) → w' ≡ with_bytes w bytes → length w + length bytes ≤ room → length w' ≡ length w + length bytes
 more_wait w w' bytes e h = ap length (e ∙ all_wait w bytes h) ∙ length-append w bytes
 
+-- a piece into a buffer that has room for it
+pub piece_waits : (l piece : List ℕ) (at n k : ℕ) → at ≤ length l → length piece ≡ n → take (at + n) (put_mid at k l piece) ≡ take at l ++ piece
+piece_waits l piece at n k h e =
+    let whole : take n piece ≡ piece = take_all n piece (omega (arith, e)) in
+    let all : take (length (take at l) + n) (put_mid at k l piece) ≡ take at l ++ take n (piece ++ post_of at k l) = take-append-add (take at l) (piece ++ post_of at k l) n in
+    rw whole at (rw (take-append-le n piece (post_of at k l) (omega (arith, e))) at (rw (length-take-le at l h) at all))
+
 -- ---- nothing, one call behind the other, and the same bytes in other words
 module _ {W : Type 0} where
   pub puts_none : (s : Output W) → Puts s s []
@@ -65,6 +74,13 @@ module _ {W : Type 0} where
 
   pub puts_as : {s r : Output W} {xs ys : List ℕ} → xs ≡ ys → Puts s r xs → Puts s r ys
   puts_as e p = rw e at p
+
+  pub puts_piece : {s r : Output W} (piece : List ℕ) → length (waits s) + length piece ≤ room → waits r ≡ waits s ++ piece → why r ≡ why s → Puts s r piece
+  puts_piece {s} {r} piece h e f = record {
+    waiting = e ∙ sym (all_wait (waits s) piece h);
+    stays = λ _. f;
+    room_left = λ _. (ap length e ∙ length-append (waits s) piece, f);
+  }
 
   -- ---- into an empty buffer
   pub puts_first : {s r : Output W} {bytes : List ℕ} → waits s ≡ [] → why s ≡ None → Puts s r bytes → PutsFirst r bytes
@@ -87,8 +103,8 @@ appends_none : (h : Option (List ℕ)) → Appends h h []
 appends_none None = tt
 appends_none (Some a) = sym (append-nil a)
 
--- a byte waits that did not
-appends_waiting : (h : Option (List ℕ)) (w w' bytes : List ℕ) → w' ≡ w ++ bytes → Appends (append_known h w) (append_known h w') bytes
+-- bytes wait that did not
+pub appends_waiting : (h : Option (List ℕ)) (w w' bytes : List ℕ) → w' ≡ w ++ bytes → Appends (append_known h w) (append_known h w') bytes
 appends_waiting None w w' bytes e = tt
 appends_waiting (Some a) w w' bytes e = rw e (sym (append_assoc a w bytes))
 
@@ -155,6 +171,18 @@ module _ {W : Type 0} (contents : W → Option (List ℕ)) where
 -- ---- the bytes of a text, one after the other
 pub bytes_more : (bs : List ℕ) (k : ℕ) → k < length bs → take k bs ++ (get_or bs k 0 ∷ []) ≡ take (k + 1) bs
 bytes_more bs k h = sym (rw (add-one k) (take-suc bs k 0 h))
+
+-- ---- bytes that are put piece by piece: a front of them, a byte, a front of what follows it
+module _ (rest more front rest' : List ℕ) (b : ℕ) (e : rest ≡ b ∷ more) (f : more ≡ front ++ rest') where
+  pub rest_smaller : length rest' < length rest
+  rest_smaller = omega (arith, ap length e, ap length f, length-append front rest')
+
+  pub front_grows : (bytes before : List ℕ) → bytes ≡ before ++ rest → bytes ≡ (before ++ (b ∷ front)) ++ rest'
+  front_grows bytes before h = h ∙ ap (λ (xs : List ℕ). before ++ xs) (e ∙ ap (λ (xs : List ℕ). b ∷ xs) f) ∙ sym (append_assoc before (b ∷ front) rest')
+
+pub front_whole : (bytes front rest : List ℕ) → bytes ≡ front ++ rest → length rest ≡ 0 → front ≡ bytes
+front_whole bytes front [] h e = sym (h ∙ append-nil front)
+front_whole bytes front (x ∷ rest) h e = absurd (omega (arith, e))
 
 -- a part that is there, and two that are not
 module _ (text : List ℕ) (start end : ℕ) where

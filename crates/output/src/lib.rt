@@ -25,7 +25,7 @@ pub struct Output<W> {
 }
 
 impl<W: Write> Output<W> {
-    ghost use Rattle.std.specs.Prelude.{◌≡◌, ◌≢◌, None, Some, IsErr, IfErr, OnOk, [], ◌∷◌};
+    ghost use Rattle.std.specs.Prelude.{◌≡◌, ◌≢◌, None, Some, IsErr, IfErr, OnOk, OnErr, ℕ, List, [], ◌∷◌, ◌++◌, take};
     ghost use Rattle.std.specs.Io.KnownBytes.{Appends};
     ghost use Rattle.digits.specs.Digits.{number_text};
     ghost use Rattle.output.specs.Waiting as rule;
@@ -43,6 +43,28 @@ impl<W: Write> Output<W> {
             buffer: [0; ROOM],
             count: 0,
         }
+    }
+
+    // Over a buffer whose first bytes wait, all where it has no more than `count`, and where a write failed before, with why.
+    pub fn over(to: W, buffer: [u8; ROOM], count: usize, error: Option<io::Error>) -> Output<W>
+        ensures waiting { waits result ≡ take count buffer }
+        ensures kept { why result ≡ error }
+        ensures before { behind result ≡ to }
+    {
+        let mut to = Watched::new(to);
+        to.error = error;
+        Output {
+            to,
+            buffer,
+            count: count.min(ROOM),
+        }
+    }
+
+    // What waits.
+    pub fn waiting(&self) -> &[u8]
+        ensures { result.now ≡ waits self.now }
+    {
+        &self.buffer[..self.count]
     }
 
     // Why a write failed.
@@ -67,12 +89,25 @@ impl<W: Write> Output<W> {
         self.count = 1;
     }
 
+    // As many of the bytes as have room beside those that wait, in one piece; it answers the others.
+    fn put_front<'a>(&mut self, bytes: &'a [u8]) -> &'a [u8]
+        ensures { (front : List ℕ) × (bytes.now ≡ front ++ result.now) × Puts self.old self.new front × Sends W.contents self.old self.new front }
+    {
+        let fit = bytes.len().min(ROOM - self.count);
+        let (front, rest) = bytes.split_at(fit);
+        self.buffer[self.count..self.count + fit].copy_from_slice(front);
+        self.count += fit;
+        rest
+    }
+
     pub fn put_bytes(&mut self, bytes: &[u8])
         ensures puts { Puts self.old self.new bytes.now }
         ensures sent { Sends W.contents self.old self.new bytes.now }
     {
-        for byte in bytes {
+        let mut rest = self.put_front(bytes);
+        while let Some((byte, more)) = rest.split_first() {
             self.put_byte(*byte);
+            rest = self.put_front(more);
         }
     }
 
@@ -109,6 +144,7 @@ impl<W: Write> Output<W> {
         ensures empty { OnOk result (waits self.new ≡ []) }
         ensures went { OnOk result (why self.new ≡ None) }
         ensures kept { IfErr result (λ e. why self.new ≡ Some e) }
+        ensures rest { OnErr result (waits self.new ≡ waits self.old) }
         ensures stays { why self.old ≢ None → IsErr result × (self.new.to ≡ self.old.to) }
         ensures idle { waits self.old ≡ [] → self.new.to ≡ self.old.to }
     {

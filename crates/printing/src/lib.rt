@@ -1,7 +1,9 @@
 // Lines that several programs print: numbers by field and by line, and a refusal.
 #![tactic(auto)]
 
-ghost use Rattle.output.specs.Puts.{Puts, Sends};
+ghost use Rattle.std.specs.Prelude.{◌≡◌, None, []};
+ghost use Rattle.output.specs.Held.{waits, why};
+ghost use Rattle.output.specs.Puts.{Puts, PutsFirst, Sends, SendsFirst};
 ghost use Rattle.printing.specs.Lines as rule;
 
 use output::Output;
@@ -32,6 +34,8 @@ pub fn field<W: Write>(out: &mut Output<W>, number: u64)
 pub fn refused<W: Write>(out: &mut Output<W>, number: u64, place: usize)
     ensures puts { Puts out.old out.new (rule.refused_line number place) }
     ensures sent { Sends W.contents out.old out.new (rule.refused_line number place) }
+    ensures first { waits out.old ≡ [] → why out.old ≡ None → PutsFirst out.new (rule.refused_line number place) }
+    ensures first_sent { waits out.old ≡ [] → SendsFirst W.contents out.old out.new (rule.refused_line number place) }
 {
     out.put_bytes(b"refused ");
     out.put_number(number);

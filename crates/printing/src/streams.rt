@@ -1,5 +1,5 @@
 // What a program says: the bytes that its input asks for, on standard output, or a refusal, on standard error.
-ghost use Rattle.std.specs.Prelude.{◌≡◌, ◌≢◌, None, IsErr, OnOk, []};
+ghost use Rattle.std.specs.Prelude.{◌≡◌, ◌≢◌, None, Some, IsErr, IfErr, OnOk, OnErr, []};
 ghost use Rattle.std.specs.Io.KnownBytes.{Appends};
 ghost use Rattle.std.specs.Option.{option_or};
 ghost use Rattle.output.specs.Held.{waits, why, behind};
@@ -50,6 +50,11 @@ impl<O: Write, E: Write> Streams<O, E> {
     pub fn flush(&mut self) -> io::Result<()>
         ensures sent_out { OnOk result (Appends (O.contents (behind self.old.out)) (O.contents (behind self.new.out)) (waits self.old.out)) }
         ensures sent_err { OnOk result (Appends (E.contents (behind self.old.err)) (E.contents (behind self.new.err)) (waits self.old.err)) }
+        ensures empty { OnOk result ((waits self.new.out ≡ []) × (waits self.new.err ≡ [])) }
+        ensures went { OnOk result ((why self.new.out ≡ None) × (why self.new.err ≡ None)) }
+        ensures kept { IfErr result (λ e. option_or (why self.new.out) (why self.new.err) ≡ Some e) }
+        ensures rest_out { why self.new.out ≢ None → waits self.new.out ≡ waits self.old.out }
+        ensures rest_err { why self.new.err ≢ None → waits self.new.err ≡ waits self.old.err }
         ensures stays_out { why self.old.out ≢ None → IsErr result }
         ensures stays_err { why self.old.err ≢ None → IsErr result }
         ensures idle_out { waits self.old.out ≡ [] → self.new.out.to ≡ self.old.out.to }

@@ -13,6 +13,9 @@ ghost use Rattle.window.specs.Answers.{answer_of, front_of};
 use tables::{Refusal, layout, record};
 use text::Span;
 
+// The largest end of a window. Past it a sum of 64 bits has no room, and `checked_add` gives none.
+pub const LARGEST_END: u64 = u64::MAX;
+
 // The first byte, and the place after the last.
 #[derive(Clone, Copy)]
 pub struct Range {

@@ -1,6 +1,9 @@
-use Rattle.std.specs.Prelude.{take}
+use Rattle.std.specs.Prelude.{◌≡◌, List, ℕ, ◌++◌, length}
 use Rattle.output.specs.Puts.{Puts, Sends}
 use Rattle.output.proofs.Output.put_bytes.Given as goal
 
 abbrev pub invariant-loop-byte : goal.invariant-loop-byte
-invariant-loop-byte g l = Puts l.initial.self l.self (take l.byte-index l.bytes) × Sends g.W.Write.contents l.initial.self l.self (take l.byte-index l.bytes)
+invariant-loop-byte g l = (front : List ℕ) × (l.fn.bytes ≡ front ++ l.rest) × Puts l.fn.self l.self front × Sends g.W.Write.contents l.fn.self l.self front
+
+abbrev pub decreases-loop-byte : goal.decreases-loop-byte
+decreases-loop-byte g l = length l.rest
