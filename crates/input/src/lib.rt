@@ -6,6 +6,7 @@ ghost use Rattle.std.specs.Prelude.{◌≡◌, None, Some, true, ◌≤◌, ◌<
 ghost use Rattle.input.specs.Numbers.{number_at};
 ghost use Rattle.input.specs.declared.TheConstants.{ROOM};
 
+use std::alloc::AllocError;
 use std::io::Read;
 
 pub mod watched; // a reader that keeps why it failed
@@ -32,6 +33,25 @@ pub struct Input<R> {
     stop: Option<Stop>,
     ghost within: { (at ≤ end) × (end ≤ ROOM) },
 }
+
+// An input goes on in a copy as it would: with its place, its buffer and its stop, and a copy of its reader.
+impl<R: Clone> Clone for Input<R> {
+    ghost is_clone = { λ s c. R.is_clone s.from c.from × (c.buffer ≡ s.buffer) × (c.at ≡ s.at) × (c.end ≡ s.end) × (c.stop ≡ s.stop) };
+
+    ghost is_infallible = { λ s. R.is_infallible s.from };
+
+    fn clone(&self) -> Result<Input<R>, AllocError> {
+        Ok(Input {
+            from: self.from.clone()?,
+            buffer: self.buffer,
+            at: self.at,
+            end: self.end,
+            stop: self.stop,
+        })
+    }
+}
+
+impl<R: Copy> Copy for Input<R> {}
 
 // A number of its bytes, the lowest first.
 fn number_of(bytes: [u8; 8]) -> u64

@@ -1,5 +1,7 @@
 // For each op: its arguments, the call of the face with exactly that memory, its line. A record that is cut off or too large makes no call.
 // Memory that a call fills is printed as the call leaves it.
+ghost use Rattle.std.specs.Prelude.{◌≤◌, length, IfOk};
+
 use crate::Probe;
 use crate::op::Op;
 use input::{Input, Stop};
@@ -13,7 +15,10 @@ struct Table<'a> {
     words: &'a [u64],
 }
 
-fn take_table<'a>(input: &mut Input<Stdin>, words: &'a mut [u64]) -> Result<Table<'a>, Stop> {
+// No more words than were lent.
+fn take_table<'a>(input: &mut Input<Stdin>, words: &'a mut [u64]) -> Result<Table<'a>, Stop>
+    ensures { IfOk result (λ table. length table.words.now ≤ length words.old) }
+{
     let entries = input.number()? as usize;
     let words = input.numbers(words)?;
     Ok(Table { entries, words })
