@@ -226,7 +226,7 @@ impl<R: Read> Input<R> {
         Ok(front)
     }
 
-    // A slice of bytes: their count, then the bytes, to the front of the lent text, which is answered.
+    // A slice of bytes: their count, then the bytes, to the front of the lent text, which is answered. They come piece by piece, as the buffer has them.
     pub fn bytes<'a>(&mut self, text: &'a mut [u8]) -> Result<&'a mut [u8], Stop>
         ensures bound { IfOk result (λ front. length front.now ≤ length text.old) }
         ensures stands { Stands self.old self.new result }
@@ -237,8 +237,13 @@ impl<R: Read> Input<R> {
             return Err(self.halt(Stop::TooLarge));
         }
         let front = &mut text[..count];
-        for byte in front.iter_mut() {
-            *byte = self.byte()?;
+        let mut filled = 0usize;
+        while filled < count {
+            self.fill()?;
+            let more = (count - filled).min(self.end - self.at);
+            front[filled..filled + more].copy_from_slice(&self.buffer[self.at..self.at + more]);
+            self.at += more;
+            filled += more;
         }
         Ok(front)
     }
