@@ -248,3 +248,21 @@ impl<R: Read> Input<R> {
         Ok(front)
     }
 }
+
+#[cfg(test)]
+mod tests {
+    use super::*;
+
+    // A copy takes no memory where its reader takes none, and goes on from where the input stood.
+    #[test]
+    fn a_copy_goes_on(rt: HostRuntime) {
+        let bytes = [7u8, 8, 9];
+        let mut input = Input::new(&bytes[..]);
+        assert_eq!(rt; input.byte(), Ok(7));
+        let mut copy = input.clone().expect(&rt, "no memory is taken");
+        assert_eq!(rt; copy.byte(), Ok(8));
+        assert_eq!(rt; copy.byte(), Ok(9));
+        assert_eq!(rt; copy.byte(), Err(Stop::Ended));
+        assert_eq!(rt; input.byte(), Ok(8));
+    }
+}

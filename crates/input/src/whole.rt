@@ -5,7 +5,7 @@ use std::io;
 use std::io::Read;
 
 // A read that failed, and how many bytes came before it.
-#[derive(Drop)]
+#[derive(Clone, Copy)]
 pub struct Cut {
     pub count: usize,
     pub error: io::Error,

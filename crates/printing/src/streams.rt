@@ -50,6 +50,8 @@ impl<O: Write, E: Write> Streams<O, E> {
     pub fn flush(&mut self) -> io::Result<()>
         ensures sent_out { OnOk result (Appends (O.contents (behind self.old.out)) (O.contents (behind self.new.out)) (waits self.old.out)) }
         ensures sent_err { OnOk result (Appends (E.contents (behind self.old.err)) (E.contents (behind self.new.err)) (waits self.old.err)) }
+        ensures out_went { why self.new.out ≡ None → (waits self.new.out ≡ []) × Appends (O.contents (behind self.old.out)) (O.contents (behind self.new.out)) (waits self.old.out) }
+        ensures err_went { why self.new.err ≡ None → (waits self.new.err ≡ []) × Appends (E.contents (behind self.old.err)) (E.contents (behind self.new.err)) (waits self.old.err) }
         ensures empty { OnOk result ((waits self.new.out ≡ []) × (waits self.new.err ≡ [])) }
         ensures went { OnOk result ((why self.new.out ≡ None) × (why self.new.err ≡ None)) }
         ensures kept { IfErr result (λ e. option_or (why self.new.out) (why self.new.err) ≡ Some e) }
