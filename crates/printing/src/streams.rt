@@ -1,5 +1,5 @@
 // What a program says: the bytes that its input asks for, on standard output, or a refusal, on standard error.
-ghost use Rattle.std.specs.Prelude.{◌≡◌, ◌≢◌, None, Some, IsErr, IfErr, OnOk, OnErr, []};
+ghost use Rattle.std.specs.Prelude.{◌≡◌, ◌≢◌, None, Some, IsErr, IfErr, OnOk, []};
 ghost use Rattle.std.specs.Io.KnownBytes.{Appends};
 ghost use Rattle.std.specs.Option.{option_or};
 ghost use Rattle.output.specs.Held.{waits, why, behind};
